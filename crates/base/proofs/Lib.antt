@@ -1,0 +1,8 @@
+-- tests: and-i, and-e, or-e, any-i, any-e, all-e, ..
+pub mod Truth
+-- members, choices, numbers in a row
+pub mod Lists
+-- the order of copies, and their places in a rising list
+pub mod Copies
+-- orders of refusals: unrefused, passed, over-i, over-e; limits
+pub mod Orders

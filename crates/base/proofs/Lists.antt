@@ -1,0 +1,161 @@
+-- Members of lists made from lists, the k-th of a list, and numbers from a on.
+-- Rests on specs Lists, Truth.
+use mathlib.Core.Path.{_≡_, refl, sym, ap, ap₂, subst, _∙_}
+use mathlib.Core.Logic.{_≢_, _⊎_, inl, inr, ⊎-elim}
+use mathlib.Core.Bool.{Bool, true, false}
+use mathlib.Core.List.{List, [], _∷_, _++_, map, List·Memᴰ, List·Memᴰ·head, List·Memᴰ·tail, List·Memᴰ·not-nil, List·Memᴰ·cases-cons}
+use mathlib.Core.List.{Memᴰ·append-left, Memᴰ·append-right, List·Memᴰ·append-cases}
+use mathlib.Core.Option.{Option, some, none, Option·map, Option·none-ne-some, Option·some-injective}
+use Prim.Native.Nat.{ℕ, zero, suc, _+_, _≤_, _<_}
+use native.Mathlib.Omega.{arith}
+use native.Mathlib.Decide.{ℕ-discrete}
+use lib.ListN.{length}
+use Rattle.base.specs.Lists.{each, keep, chosen, from}
+use Rattle.base.proofs.Truth.{not-both}
+
+-- the lists that f gives
+module _ {A B : Type 0} (f : A → List B) where
+  pub each-i : {a : A} {b : B} (xs : List A) → List·Memᴰ a xs → List·Memᴰ b (f a) → List·Memᴰ b (each f xs)
+  unfolding each
+  each-i [] m n = absurd (List·Memᴰ·not-nil m)
+  each-i {a} {b} (x ∷ xs) m n = go (each-i xs) (List·Memᴰ·cases-cons m)
+    where
+      go : (List·Memᴰ a xs → List·Memᴰ b (f a) → List·Memᴰ b (each f xs)) → (a ≡ x) ⊎ List·Memᴰ a xs → List·Memᴰ b (f x ++ each f xs)
+      go below (inl e) = Memᴰ·append-left (each f xs) (subst (λ (z : A). List·Memᴰ b (f z)) e n)
+      go below (inr k) = Memᴰ·append-right (f x) (below k n)
+
+  pub each-e : {b : B} (xs : List A) → List·Memᴰ b (each f xs) → (a : A) × List·Memᴰ a xs × List·Memᴰ b (f a)
+  unfolding each
+  each-e [] m = absurd (List·Memᴰ·not-nil m)
+  each-e {b} (x ∷ xs) m = go (each-e xs) (List·Memᴰ·append-cases (f x) m)
+    where
+      go : (List·Memᴰ b (each f xs) → (a : A) × List·Memᴰ a xs × List·Memᴰ b (f a)) → List·Memᴰ b (f x) ⊎ List·Memᴰ b (each f xs)
+          → (a : A) × List·Memᴰ a (x ∷ xs) × List·Memᴰ b (f a)
+      go below (inl k) = (x, List·Memᴰ·head refl, k)
+      go below (inr k) = let r = below k in (r .0, List·Memᴰ·tail (r .1), r .2)
+
+-- what is kept
+module _ {A : Type 0} (f : A → Bool) where
+  pub keep-i : {x : A} (xs : List A) → List·Memᴰ x xs → f x ≡ true → List·Memᴰ x (keep f xs)
+  unfolding keep
+  keep-i [] m p = absurd (List·Memᴰ·not-nil m)
+  keep-i {x} (y ∷ xs) m p = go (f y) refl (List·Memᴰ·cases-cons m) (keep-i xs)
+    where
+      go : (b : Bool) → f y ≡ b → (x ≡ y) ⊎ List·Memᴰ x xs → (List·Memᴰ x xs → f x ≡ true → List·Memᴰ x (keep f xs))
+          → List·Memᴰ x (keep f (y ∷ xs))
+      go true e (inl q) below = rw (e, keep) (List·Memᴰ·head q)
+      go true e (inr k) below = rw (e, keep) (List·Memᴰ·tail (below k p))
+      go false e (inl q) below = absurd (not-both (sym (ap f q) ∙ p) e)
+      go false e (inr k) below = rw (e, keep) (below k p)
+
+  pub keep-e : {x : A} (xs : List A) → List·Memᴰ x (keep f xs) → List·Memᴰ x xs × (f x ≡ true)
+  unfolding keep
+  keep-e [] m = absurd (List·Memᴰ·not-nil m)
+  keep-e {x} (y ∷ xs) m = go (f y) refl m (keep-e xs)
+    where
+      go : (b : Bool) → f y ≡ b → List·Memᴰ x (keep f (y ∷ xs)) → (List·Memᴰ x (keep f xs) → List·Memᴰ x xs × (f x ≡ true))
+          → List·Memᴰ x (y ∷ xs) × (f x ≡ true)
+      go true e k below =
+          ⊎-elim (λ q. (List·Memᴰ·head q, ap f q ∙ e))
+          (λ l. let r = below l in (List·Memᴰ·tail (r .0), r .1))
+          (List·Memᴰ·cases-cons (rw (e, keep) at k))
+      go false e k below = let r = below (rw (e, keep) at k) in (List·Memᴰ·tail (r .0), r .1)
+
+-- the numbers from a on
+pub from-i : (k a x : ℕ) → a ≤ x → x < a + k → List·Memᴰ x (from a k)
+unfolding from
+from-i zero a x l h = absurd (omega arith)
+from-i (suc k) a x l h = go (ℕ-discrete x a) (from-i k (suc a) x)
+  where
+    go : Dec (x ≡ a) → (suc a ≤ x → x < suc a + k → List·Memᴰ x (from (suc a) k)) → List·Memᴰ x (a ∷ from (suc a) k)
+    go (yes e) below = List·Memᴰ·head e
+    go (no e) below = List·Memᴰ·tail (below (omega arith) (omega arith))
+
+pub from-e : (k a x : ℕ) → List·Memᴰ x (from a k) → (a ≤ x) × (x < a + k)
+unfolding from
+from-e zero a x m = absurd (List·Memᴰ·not-nil m)
+from-e (suc k) a x m = ⊎-elim (λ e. omega arith) (λ n. let h = from-e k (suc a) x n in omega arith) (List·Memᴰ·cases-cons m)
+
+pub from-length : (k a : ℕ) → length (from a k) ≡ k
+unfolding from
+from-length zero a = refl
+from-length (suc k) a = ap suc (from-length k (suc a))
+
+-- THE K-TH OF A LIST
+
+-- a choice among the images is the image of a choice
+pub chosen-map : {X Y : Type 0} (f : X → Y) (xs : List X) (k : ℕ) → chosen (map f xs) k ≡ Option·map f (chosen xs k)
+unfolding chosen
+chosen-map f xs zero = refl
+chosen-map f [] (suc k) = refl
+chosen-map f (x ∷ xs) (suc zero) = refl
+chosen-map f (x ∷ xs) (suc (suc k)) = chosen-map f xs (suc k)
+
+pub chosen-mem : {X : Type 0} (xs : List X) (k : ℕ) (x : X) → chosen xs k ≡ some x → List·Memᴰ x xs
+unfolding chosen
+chosen-mem xs zero x e = absurd (Option·none-ne-some x e)
+chosen-mem [] (suc k) x e = absurd (Option·none-ne-some x e)
+chosen-mem (y ∷ xs) (suc zero) x e = List·Memᴰ·head (sym (Option·some-injective y x e))
+chosen-mem (y ∷ xs) (suc (suc k)) x e = List·Memᴰ·tail (chosen-mem xs (suc k) x e)
+
+pub chosen-le : {X : Type 0} (xs : List X) (i : ℕ) (x : X) → chosen xs i ≡ some x → (1 ≤ i) × (i ≤ length xs)
+unfolding chosen
+chosen-le xs zero x q = absurd (Option·none-ne-some x q)
+chosen-le [] (suc i) x q = absurd (Option·none-ne-some x q)
+chosen-le (y ∷ xs) (suc zero) x q = omega arith
+chosen-le (y ∷ xs) (suc (suc i)) x q = let h = chosen-le xs (suc i) x q in omega arith
+
+-- a member is one of the choices
+pub choice-of : {X : Type 0} {x : X} {xs : List X} → List·Memᴰ x xs → (k : ℕ) × (chosen xs (suc k) ≡ some x)
+unfolding chosen
+choice-of (List·Memᴰ·head e) = (0, ap some (sym e))
+choice-of (List·Memᴰ·tail m) = let r = choice-of m in (suc (r .0), r .1)
+
+pub chosen-some : {X : Type 0} (xs : List X) (i : ℕ) → 1 ≤ i → i ≤ length xs → (x : X) × (chosen xs i ≡ some x)
+unfolding chosen
+chosen-some xs zero p l = absurd (omega arith)
+chosen-some [] (suc i) p l = absurd (omega arith)
+chosen-some (x ∷ xs) (suc zero) p l = (x, refl)
+chosen-some (x ∷ xs) (suc (suc i)) p l = chosen-some xs (suc i) (omega arith) (omega arith)
+
+-- two lists of one length have the same choices
+pub data Both {X Y : Type 0} : Option X → Option Y → Type 0 where
+  neither : Both none none
+  both : {x : X} {y : Y} → Both (some x) (some y)
+
+pub chosen-both : {X Y : Type 0} (xs : List X) (ys : List Y) → length xs ≡ length ys → (k : ℕ) → Both (chosen xs k) (chosen ys k)
+unfolding chosen
+chosen-both xs ys e zero = neither
+chosen-both [] [] e (suc k) = neither
+chosen-both [] (y ∷ ys) e (suc k) = absurd (omega arith)
+chosen-both (x ∷ xs) [] e (suc k) = absurd (omega arith)
+chosen-both (x ∷ xs) (y ∷ ys) e (suc zero) = both
+chosen-both (x ∷ xs) (y ∷ ys) e (suc (suc k)) = chosen-both xs ys (omega arith) (suc k)
+
+-- where one number alone passes, it alone is kept
+module _ (f : ℕ → Bool) (a : ℕ) where
+  rejects : (x : ℕ) → (f x ≡ true → x ≡ a) → x ≢ a → f x ≡ false
+  rejects x only n = go (f x) refl
+    where
+      go : (b : Bool) → f x ≡ b → f x ≡ false
+      go true e = absurd (n (only e))
+      go false e = e
+
+  keep-none : (k x : ℕ) → a < x → ((y : ℕ) → x ≤ y → y < x + k → f y ≡ true → y ≡ a) → keep f (from x k) ≡ []
+  unfolding keep from
+  keep-none zero x h only = refl
+  keep-none (suc k) x h only =
+      rw (rejects x (only x (omega arith) (omega arith)) (λ e. omega arith), keep)
+      (keep-none k (suc x) (omega arith) (λ y p q. only y (omega arith) (omega arith)))
+
+  pub keep-one : f a ≡ true → (k x : ℕ) → x ≤ a → a < x + k → ((y : ℕ) → x ≤ y → y < x + k → f y ≡ true → y ≡ a)
+      → keep f (from x k) ≡ a ∷ []
+  unfolding keep from
+  keep-one p zero x l h only = absurd (omega arith)
+  keep-one p (suc k) x l h only = go (ℕ-discrete x a) (λ l h. keep-one p k (suc x) l h (λ y p q. only y (omega arith) (omega arith)))
+    where
+      go : Dec (x ≡ a) → (suc x ≤ a → a < suc x + k → keep f (from (suc x) k) ≡ a ∷ []) → keep f (from x (suc k)) ≡ a ∷ []
+      go (yes e) below =
+          rw (ap f e ∙ p, keep)
+          (ap₂ (λ y l. y ∷ l) e (keep-none k (suc x) (omega arith) (λ y p q. only y (omega arith) (omega arith))))
+      go (no e) below = rw (rejects x (only x (omega arith) (omega arith)) e, keep) (below (omega arith) (omega arith))

@@ -1,0 +1,370 @@
+-- A sheet that keeps rule 11 is written from rows that fit; so the rule, clause by clause, is that there are such rows.
+-- Rests on base Truth, Copies and Orders, Reading, RuleKept.
+use mathlib.Core.Path.{_≡_, refl, sym, ap, ap₂, subst, _∙_}
+use mathlib.Core.Logic.{_≢_, _↔_, ⊎-elim}
+use mathlib.Core.Bool.{Bool, true, false, _&&_, not}
+use mathlib.Core.List.{List, [], _∷_, _++_, map, append-assoc, append-nil, List·Memᴰ, List·Memᴰ·head, List·Memᴰ·not-nil}
+use mathlib.Core.List.{List·Memᴰ·cases-cons}
+use mathlib.Core.List.{List·Memᴰ·eq-of-singleton, Memᴰ·of-map}
+use mathlib.Core.Option.{Option, some, none, Option·map, Option·none-ne-some, Option·some-injective}
+use Prim.Native.Nat.{ℕ, zero, suc, _+_, _-_, _*_, _≤_, _<_}
+use native.Mathlib.Omega.{arith}
+use borrow.Author.Tests.{eq-eqb, ne-eqb, eqb-true, ltb-false, not-false}
+use lib.Dec.{eqb, ltb}
+use lib.ListN.{length, take, drop, take-append-drop, length-map}
+use lib.Seq.{drop-cons, drop-length, drop-at, length-take-le}
+use Rattle.base.specs.Lists.{each, from, chosen, equal}
+use Rattle.base.specs.Copy.{Copy, before}
+use Rattle.base.proofs.Truth.{and-e, or-false, any-false}
+use Rattle.base.proofs.Lists.{each-i, keep-i, keep-e, from-i, from-e, from-length, chosen-map, chosen-le, chosen-some}
+use Rattle.base.proofs.Copies.{Rising, before-trans}
+use Rattle.formats.specs.Words.{word, follow}
+use Rattle.base.specs.Checks.{outside}
+use Rattle.formats.specs.BoundedSheet.{Row, firstEdge, edgeRecords, copyWords, edgeWords, edgeCount, sheetWords, Heading, heading}
+use Rattle.formats.specs.BoundedSheet.{blockAt, lowAt, firstAt, targetAt, nextAt, copyAt, chainAt, targetsAt}
+use Rattle.formats.specs.Rule11.{tooShort, badLimits, wrongLength, largeBudget, badBlocks, badLows, badCopyOrder, copiesOf}
+use Rattle.formats.specs.Rule11.{notOneOf, badExit, badEdgeOrder, badTargetWords, boundedOrder, boundedRefusal}
+use Rattle.base.proofs.Orders.{unrefused, inside-of}
+use Rattle.formats.proofs.Reading.{Laid, edgePlace}
+use Rattle.formats.proofs.RuleKept.{RowFits, Once, RowsFit, Fits, RecordClauses, fits-rule}
+
+-- the clauses behind the header
+pub record Clauses (s : List ℕ) : Type 0 where
+  pub long : tooShort s ≡ false
+  pub limits : badLimits (heading s) s ≡ false
+  pub budget : largeBudget (heading s) s ≡ false
+  pub one : notOneOf (heading s) s 1 ≡ false
+  pub records : RecordClauses (heading s) s
+
+pub clauses : (s : List ℕ) → boundedRefusal s ≡ 0 → Clauses s
+unfolding boundedRefusal boundedOrder
+clauses s e =
+    let a = unrefused 10 _ _ s e in
+    let b = unrefused 10 _ _ s (a .1) in
+    let c = unrefused 10 _ _ s (b .1) in
+    let d = unrefused 10 _ _ s (c .1) in
+    let f = unrefused 10 _ _ s (d .1) in
+    let g = unrefused 10 _ _ s (f .1) in
+    let h = unrefused 10 _ _ s (g .1) in
+    let i = unrefused 10 _ _ s (h .1) in
+    let j = unrefused 10 _ _ s (i .1) in
+    let k = unrefused 10 _ _ s (j .1) in
+    let l = unrefused 10 _ _ s (k .1) in
+    let m = unrefused 10 _ _ s (l .1) in
+    let R : RecordClauses (heading s) s
+    = record { size = c .0; blocks = f .0; lows = g .0; order = h .0; two = j .0; exit = k .0; edges = l .0; goals = m .0 } in
+    record { long = a .0; limits = b .0; budget = d .0; one = i .0; records = R }
+
+-- WORDS FROM A PLACE ON
+
+two-words : (s : List ℕ) (n : ℕ) → n + 2 ≤ length s → drop n s ≡ word s n ∷ word s (n + 1) ∷ drop (n + 2) s
+two-words s n l =
+    let p : n + 1 ≡ suc n = omega arith in
+    let q : n + 2 ≡ suc (suc n) = omega arith in
+    rw (p, q) (drop-cons s n 0 (omega arith) ∙ ap (λ (l : List ℕ). word s n ∷ l) (drop-cons s (suc n) 0 (omega arith)))
+
+three-words : (s : List ℕ) (n : ℕ) → n + 3 ≤ length s → drop n s ≡ word s n ∷ word s (n + 1) ∷ word s (n + 2) ∷ drop (n + 3) s
+three-words s n l =
+    let q : n + 2 ≡ suc (suc n) = omega arith in
+    let r : n + 3 ≡ suc (suc (suc n)) = omega arith in
+    two-words s n (omega arith) ∙ ap (λ (l : List ℕ). word s n ∷ word s (n + 1) ∷ l) (rw (q, r) (drop-cons s (suc (suc n)) 0 (omega arith)))
+
+-- consecutive numbers fall apart into consecutive numbers
+record Parts (a m : ℕ) (xs ys : List ℕ) : Type 0 where
+  left : xs ≡ from a (length xs)
+  right : ys ≡ from (a + length xs) (m - length xs)
+  within : length xs ≤ m
+
+parts : (xs ys : List ℕ) (a m : ℕ) → xs ++ ys ≡ from a m → Parts a m xs ys
+unfolding from
+parts [] ys a m e =
+    let p : a + 0 ≡ a = omega arith in
+    let q : m - 0 ≡ m = omega arith in
+    record { left = refl; right = rw (p, q) e; within = omega arith }
+parts (x ∷ xs) ys a zero e = absurd (let z : _≡_ {A = ℕ} 0 1 = cc in omega arith)
+parts (x ∷ xs) ys a (suc m) e =
+    let p : x ≡ a = cc in
+    let q : xs ++ ys ≡ from (suc a) m = cc in
+    let r = parts xs ys (suc a) m q in
+    let u : a + suc (length xs) ≡ suc a + length xs = omega arith in
+    let v : suc m - suc (length xs) ≡ m - length xs = omega arith in
+    record { left = ap₂ (λ y l. y ∷ l) p (r .left); right = rw (u, v) (r .right); within = omega (arith, r .within) }
+
+module _ (h : Heading) (s : List ℕ) where
+  -- a copy and the words of its targets, as the sheet has them
+  unfoldable pub rowAt : ℕ → Row
+  rowAt i = record { copy = copyAt h s i; targetWords = targetsAt h s i }
+
+  unfoldable pub rows : List Row
+  rows = map rowAt (from 1 (h .copies))
+
+  -- a chain of following numbers was written from its targets
+  record ChainWas (x e n : ℕ) : Type 0 where
+    first : x ≡ firstEdge (suc e) (map (targetAt h s) (from (suc e) n))
+    words : drop (edgePlace h s (suc e)) s
+        ≡ edgeRecords (suc e) (map (targetAt h s) (from (suc e) n)) ++ drop (edgePlace h s (suc e) + 2 * n) s
+
+  chain-was : (n k x e : ℕ) → n < k → follow (nextAt h s) k x ≡ from (suc e) n → edgePlace h s (suc e) + 2 * n ≤ length s → ChainWas x e n
+  unfolding follow from firstEdge edgeRecords targetAt nextAt
+  chain-was n zero x e l q r = absurd (omega arith)
+  chain-was zero (suc k) zero e l q r =
+      let p : edgePlace h s (suc e) + 2 * 0 ≡ edgePlace h s (suc e) = omega arith in record { first = refl; words = rw p }
+  chain-was zero (suc k) (suc x) e l q r = absurd (let z : _≡_ {A = ℕ} 0 1 = cc in omega arith)
+  chain-was (suc n) (suc k) zero e l q r = absurd (let z : _≡_ {A = ℕ} 0 1 = cc in omega arith)
+  chain-was (suc n) (suc k) (suc x) e l q r =
+      let p : suc x ≡ suc e = cc in
+      let t : follow (nextAt h s) k (nextAt h s (suc x)) ≡ from (suc (suc e)) n = cc in
+      let a : edgePlace h s (suc (suc e)) ≡ edgePlace h s (suc e) + 2 = omega arith in
+      let b : edgePlace h s (suc e) + 2 * suc n ≡ edgePlace h s (suc (suc e)) + 2 * n = omega arith in
+      let w = chain-was n k (nextAt h s (suc e)) (suc e) (omega arith)
+      (subst (λ (y : ℕ). follow (nextAt h s) k (nextAt h s y) ≡ from (suc (suc e)) n) p t) (omega arith) in
+      record {
+        first = p;
+        words = two-words s (edgePlace h s (suc e)) (omega arith)
+            ∙ ap₂ (λ y l. targetAt h s (suc e) ∷ y ∷ l) (w .first) (rw (b, ← a) (w .words));
+      }
+
+  -- copies whose chains are consecutive were written from their rows
+  record CopiesWere (k i e m : ℕ) : Type 0 where
+    copies : drop (h .records + 3 * (i - 1)) s ≡ copyWords (suc e) (map rowAt (from i k)) ++ drop (h .records + 3 * (i - 1) + 3 * k) s
+    edges : drop (edgePlace h s (suc e)) s ≡ edgeWords (suc e) (map rowAt (from i k)) ++ drop (edgePlace h s (suc e) + 2 * m) s
+    number : edgeCount (map rowAt (from i k)) ≡ m
+
+  copies-were : (k i e m : ℕ) → 1 ≤ i → each (chainAt h s) (from i k) ≡ from (suc e) m → m ≤ h .edges
+      → h .records + 3 * (i - 1) + 3 * k ≤ length s → edgePlace h s (suc e) + 2 * m ≤ length s → CopiesWere k i e m
+  unfolding each from copyWords edgeWords edgeCount rowAt copyAt targetsAt chainAt blockAt lowAt firstAt
+  copies-were zero i e zero l q f r t =
+      let a : h .records + 3 * (i - 1) + 3 * 0 ≡ h .records + 3 * (i - 1) = omega arith in
+      let b : edgePlace h s (suc e) + 2 * 0 ≡ edgePlace h s (suc e) = omega arith in
+      record { copies = rw a; edges = rw b; number = refl }
+  copies-were zero i e (suc m) l q f r t = absurd (let z : _≡_ {A = ℕ} 0 1 = cc in omega arith)
+  copies-were (suc k) i e m l q f r t =
+      let p = parts (chainAt h s i) (each (chainAt h s) (from (suc i) k)) (suc e) m q in
+      let n = length (chainAt h s i) in
+      let c = chain-was n (suc (h .edges)) (firstAt h s i) e (omega (arith, p .within)) (p .left) (omega (arith, p .within)) in
+      let ts : targetsAt h s i ≡ map (targetAt h s) (from (suc e) n) = ap (map (targetAt h s)) (p .left) in
+      let len : length (targetsAt h s i) ≡ n = length-map (chainAt h s i) (targetAt h s) in
+      let x : suc e + n ≡ suc (e + n) = omega arith in
+      let w = copies-were k (suc i) (e + n) (m - n) (omega arith) (rw x at (p .right)) (omega arith) (omega arith)
+      (omega (arith, p .within)) in
+      let a₁ : h .records + 3 * (i - 1) + 3 ≡ h .records + 3 * (suc i - 1) = omega arith in
+      let a₂ : h .records + 3 * (i - 1) + 3 * suc k ≡ h .records + 3 * (suc i - 1) + 3 * k = omega arith in
+      let b₁ : edgePlace h s (suc e) + 2 * n ≡ edgePlace h s (suc (e + n)) = omega arith in
+      let b₂ : edgePlace h s (suc e) + 2 * m ≡ edgePlace h s (suc (e + n)) + 2 * (m - n) = omega (arith, p .within) in
+      let y : suc e + length (targetsAt h s i) ≡ suc (e + n) = omega arith in
+      record {
+        copies = three-words s (h .records + 3 * (i - 1)) (omega arith)
+            ∙ ap₂ (λ y l. blockAt h s i ∷ lowAt h s i ∷ y ∷ l) (c .first ∙ ap (firstEdge (suc e)) (sym ts)) (rw (a₁, a₂, y) (w .copies));
+        edges =
+            c .words ∙ ap₂ (λ x l. edgeRecords (suc e) x ++ l) (sym ts) (rw (b₁, b₂, y) (w .edges))
+            ∙ sym (append-assoc (edgeRecords (suc e) (targetsAt h s i)) _ _);
+        number = omega (arith, w .number, p .within);
+      }
+
+-- copies each of which stands before the next rise
+rising-from : (f : ℕ → Copy) (k n : ℕ) → ((i : ℕ) → n ≤ i → suc i < n + k → before (f i) (f (suc i)) ≡ true) → Rising (map f (from n k))
+unfolding Rising from
+rising-from f zero n h = tt
+rising-from f (suc zero) n h = (λ d m. absurd (List·Memᴰ·not-nil m), tt)
+rising-from f (suc (suc k)) n h =
+    let r = rising-from f (suc k) (suc n) (λ i p q. h i (omega arith) (omega arith)) in
+    let b = h n (omega arith) (omega arith) in
+    let first : (d : Copy) → List·Memᴰ d (map f (from (suc n) (suc k))) → before (f n) d ≡ true
+    = λ d m. ⊎-elim (λ e. subst (λ (x : Copy). before (f n) x ≡ true) (sym e) b) (λ l. before-trans (f n) (f (suc n)) d b (r .0 d l))
+    (List·Memᴰ·cases-cons m) in
+    (first, r)
+
+-- THE RULE'S CLAUSES GIVE ROWS THAT FIT
+
+equal-is : (xs ys : List ℕ) → equal xs ys ≡ true → xs ≡ ys
+unfolding equal
+equal-is [] [] e = refl
+equal-is [] (y ∷ ys) e = absurd (let z : _≡_ {A = ℕ} 0 1 = cc in omega arith)
+equal-is (x ∷ xs) [] e = absurd (let z : _≡_ {A = ℕ} 0 1 = cc in omega arith)
+equal-is (x ∷ xs) (y ∷ ys) e =
+    let p = and-e (eqb x y) (equal xs ys) e in
+    ap₂ (λ a b. a ∷ b) (eqb-true x y (p .0)) (equal-is xs ys (p .1))
+
+-- the i-th of the numbers from a on
+chosen-from : (k a i x : ℕ) → chosen (from a k) (suc i) ≡ some x → x ≡ a + i
+unfolding chosen from
+chosen-from zero a i x e = absurd (Option·none-ne-some x e)
+chosen-from (suc k) a zero x e = let p : a ≡ x = Option·some-injective a x e in omega arith
+chosen-from (suc k) a (suc i) x e = let p = chosen-from k (suc a) i x e in omega arith
+
+module _ (h : Heading) (s : List ℕ) (C : RecordClauses h s) where
+  met-is : each (chainAt h s) (from 1 (h .copies)) ≡ from 1 (h .edges)
+  unfolding badEdgeOrder
+  met-is = equal-is _ _ (not-false _ (C .edges))
+
+  size : length s ≡ h .records + 3 * h .copies + 2 * h .edges
+  unfolding wrongLength
+  size = eqb-true (length s) _ (not-false _ (C .size))
+
+  pub rows-length : length (rows h s) ≡ h .copies
+  unfolding rows
+  rows-length = length-map (from 1 (h .copies)) (rowAt h s) ∙ from-length (h .copies) 1
+
+  -- the sheet is written from its rows
+  were : CopiesWere h s (h .copies) 1 0 (h .edges)
+  were = copies-were h s (h .copies) 1 0 (h .edges) (omega arith) met-is (omega arith) (omega (arith, size)) (omega (arith, size))
+
+  pub laid-out : Laid h s (rows h s)
+  unfolding rows
+  laid-out =
+      let rs = map (rowAt h s) (from 1 (h .copies)) in
+      let a : h .records + 3 * (1 - 1) + 3 * h .copies ≡ edgePlace h s 1 = omega arith in
+      let b : edgePlace h s 1 + 2 * h .edges ≡ length s = omega (arith, size) in
+      let c : h .records + 3 * (1 - 1) ≡ h .records = omega arith in
+      let z : drop (edgePlace h s 1 + 2 * h .edges) s ≡ [] = rw b (drop-length s) in
+      let edges : drop (edgePlace h s 1) s ≡ edgeWords 1 rs
+      = were .edges ∙ ap (λ (l : List ℕ). edgeWords 1 rs ++ l) z ∙ append-nil (edgeWords 1 rs) in
+      let records : drop (h .records) s ≡ copyWords 1 rs ++ edgeWords 1 rs
+      = ap (λ (n : ℕ). drop n s) (sym c) ∙ were .copies ∙ ap (λ (l : List ℕ). copyWords 1 rs ++ l) (ap (λ (n : ℕ). drop n s) a ∙ edges) in
+      record {
+        front = take (h .records) s;
+        words = sym (take-append-drop (h .records) s) ∙ ap (λ (l : List ℕ). take (h .records) s ++ l) records;
+        records = sym (length-take-le (h .records) s (omega (arith, size)));
+        copies = sym rows-length;
+        edges = sym (were .number);
+      }
+
+  -- a row is what the sheet has at its place
+  row-is : (i : ℕ) (r : Row) → chosen (rows h s) i ≡ some r → List·Memᴰ i (from 1 (h .copies)) × (rowAt h s i ≡ r)
+  unfolding rows
+  row-is zero r q = absurd (omega (arith, chosen-le (rows h s) zero r q))
+  row-is (suc i) r q =
+      let l = chosen-le (rows h s) (suc i) r q in
+      let m = from-i (h .copies) 1 (suc i) (l .0) (omega (arith, l .1, rows-length)) in
+      (m, go (chosen (from 1 (h .copies)) (suc i)) refl (sym (chosen-map (rowAt h s) (from 1 (h .copies)) (suc i)) ∙ q))
+    where
+      go : (o : Option ℕ) → chosen (from 1 (h .copies)) (suc i) ≡ o → Option·map (rowAt h s) o ≡ some r → rowAt h s (suc i) ≡ r
+      go none e p = absurd (Option·none-ne-some r p)
+      go (some x) e p =
+          let z : suc i ≡ x = omega (arith, chosen-from (h .copies) 1 i x e) in
+          ap (rowAt h s) z ∙ Option·some-injective _ r p
+
+  row-here : (i : ℕ) → List·Memᴰ i (from 1 (h .copies)) → chosen (rows h s) i ≡ some (rowAt h s i)
+  row-here i m =
+      let l = from-e (h .copies) 1 i m in
+      let r = chosen-some (rows h s) i (l .0) (omega (arith, rows-length)) in
+      r .1 ∙ ap some (sym (row-is i (r .0) (r .1) .1))
+
+  -- one copy of a block
+  pub once : (v : ℕ) → length (copiesOf h s v) ≡ 1 → Once v (rows h s)
+  unfolding copiesOf rowAt copyAt
+  once v e = go (copiesOf h s v) refl e
+    where
+      go : (l : List ℕ) → copiesOf h s v ≡ l → length l ≡ 1 → Once v (rows h s)
+      go [] q p = absurd (omega arith)
+      go (x ∷ y ∷ l) q p = absurd (omega arith)
+      go (x ∷ []) q p =
+          let test : ℕ → Bool = λ i. eqb (blockAt h s i) v in
+          let m = keep-e test (from 1 (h .copies)) (subst (List·Memᴰ x) (sym q) (List·Memᴰ·head refl)) in
+          record {
+            at = x;
+            row = rowAt h s x;
+            here = row-here x (m .0);
+            is = eqb-true (blockAt h s x) v (m .1);
+            alone = λ i r c b.
+                let t = row-is i r c in
+                let f : blockAt h s i ≡ v = ap (λ (r : Row). r .copy .block) (t .1) ∙ b in
+                List·Memᴰ·eq-of-singleton (subst (List·Memᴰ i) q (keep-i test (from 1 (h .copies)) (t .0) (eq-eqb _ v f)));
+          }
+
+  pub row-fits : (i : ℕ) → List·Memᴰ i (from 1 (h .copies)) → RowFits (length (rows h s)) (h .budget) (rowAt h s i)
+  unfolding rowAt copyAt badBlocks badLows copiesOf badExit badTargetWords targetsAt chainAt follow
+  row-fits i m =
+      record {
+        block = inside-of 1 128 (blockAt h s i) (any-false (λ i. outside 1 128 (blockAt h s i)) (from 1 (h .copies)) (C .blocks) m);
+        low = ltb-false (h .budget) (lowAt h s i) (any-false (λ i. ltb (h .budget) (lowAt h s i)) (from 1 (h .copies)) (C .lows) m);
+        exit = λ e.
+            let k = keep-i (λ i. eqb (blockAt h s i) 2) (from 1 (h .copies)) m (eq-eqb (blockAt h s i) 2 e) in
+            let t = not-false (eqb (lowAt h s i) 0 && eqb (firstAt h s i) 0)
+            (any-false (λ i. not (eqb (lowAt h s i) 0 && eqb (firstAt h s i) 0)) (copiesOf h s 2) (C .exit) k) in
+            let p = and-e (eqb (lowAt h s i) 0) (eqb (firstAt h s i) 0) t in
+            let f : firstAt h s i ≡ 0 = eqb-true (firstAt h s i) 0 (p .1) in
+            (eqb-true (lowAt h s i) 0 (p .0), ap (λ (x : ℕ). map (targetAt h s) (follow (nextAt h s) (suc (h .edges)) x)) f);
+        goals = λ t k n.
+            let o = Memᴰ·of-map (targetAt h s) (chainAt h s i) k in
+            let e : List·Memᴰ (o .0) (from 1 (h .edges))
+            = subst (List·Memᴰ (o .0)) met-is (each-i (chainAt h s) (from 1 (h .copies)) m (o .1)) in
+            goal t (o .0) (o .2) e n;
+      }
+    where
+      goal : (t e : ℕ) → targetAt h s e ≡ t → List·Memᴰ e (from 1 (h .edges)) → t ≢ 0 → (2 ≤ t) × (t ≤ length (rows h s))
+      goal t e q m n =
+          let f = any-false (λ e. not (eqb (targetAt h s e) 0) && outside 2 (h .copies) (targetAt h s e)) (from 1 (h .edges))
+          (C .goals) m in
+          let z : eqb (targetAt h s e) 0 ≡ false = ne-eqb _ 0 (λ x. n (sym q ∙ x)) in
+          let l = inside-of 2 (h .copies) (targetAt h s e) (rw z at f) in
+          omega (arith, l, q, rows-length)
+
+  map-copy : (is : List ℕ) → map (λ (r : Row). r .copy) (map (rowAt h s) is) ≡ map (copyAt h s) is
+  unfolding rowAt
+  map-copy [] = refl
+  map-copy (i ∷ is) = ap (λ (l : List Copy). copyAt h s i ∷ l) (map-copy is)
+
+  in-order : (i : ℕ) → 1 ≤ i → suc i < 1 + h .copies → before (copyAt h s i) (copyAt h s (suc i)) ≡ true
+  unfolding badCopyOrder
+  in-order i p q =
+      let m = from-i (h .copies - 1) 1 i p (omega arith) in
+      let f = any-false (λ i. not (before (copyAt h s i) (copyAt h s (suc i)))) (from 1 (h .copies - 1)) (C .order) m in
+      not-false (before (copyAt h s i) (copyAt h s (suc i))) f
+
+  rises : Rising (map (λ (r : Row). r .copy) (rows h s))
+  unfolding rows
+  rises = rw (map-copy (from 1 (h .copies))) (rising-from (copyAt h s) (h .copies) 1 in-order)
+
+  pub one-of : (v : ℕ) → notOneOf h s v ≡ false → Once v (rows h s)
+  unfolding notOneOf
+  one-of v e = once v (eqb-true _ 1 (not-false (eqb (length (copiesOf h s v)) 1) e))
+
+  pub rows-fit : RowsFit (h .budget) (rows h s)
+  rows-fit = record {
+    rise = rises;
+    two = one-of 2 (C .two);
+    row = λ i r q. let t = row-is i r q in subst (RowFits (length (rows h s)) (h .budget)) (t .1) (row-fits i (t .0));
+  }
+
+-- RULE 11 AND ROWS
+
+-- a sheet that is written from rows that fit
+pub record Written (s : List ℕ) : Type 0 where
+  pub budget : ℕ
+  pub rows : List Row
+  pub words : s ≡ sheetWords budget rows
+  pub fits : Fits budget rows
+
+pub limits-of : (s : List ℕ) → Clauses s
+    → ((2 ≤ heading s .copies) × (heading s .copies ≤ 4096)) × ((1 ≤ heading s .edges) × (heading s .edges ≤ 8192))
+unfolding badLimits
+limits-of s C = let p = or-false _ _ (C .limits) in (inside-of 2 4096 _ (p .0), inside-of 1 8192 _ (p .1))
+
+written : (s : List ℕ) → Clauses s → Written s
+unfolding heading sheetWords largeBudget tooShort
+written s C =
+    let h = heading s in
+    let R = C .records in
+    let L = laid-out h s R in
+    let l = limits-of s C in
+    record {
+      budget = h .budget;
+      rows = rows h s;
+      words = three-words s 0 (ltb-false (length s) 3 (C .long))
+          ∙ ap₂ (λ x l. x ∷ l) (L .copies) (ap₂ (λ x l. x ∷ h .budget ∷ l) (L .edges)
+          (ap (drop 3) (L .words) ∙ drop-at (L .front) (copyWords 1 (rows h s) ++ edgeWords 1 (rows h s)) 3 (sym (L .records))));
+      fits = record {
+        few = omega (arith, l, L .copies);
+        edges = omega (arith, l, L .edges);
+        budget = ltb-false 500 (h .budget) (C .budget);
+        one = one-of h s R 1 (C .one);
+        rows = rows-fit h s R;
+      };
+    }
+
+pub rule11 : (s : List ℕ) → (boundedRefusal s ≡ 0) ↔ Written s
+rule11 s = (
+  λ e. written s (clauses s e),
+  λ W. subst (λ (l : List ℕ). boundedRefusal l ≡ 0) (sym (W .words)) (fits-rule (W .budget) (W .rows) (W .fits)),
+)

@@ -1,0 +1,93 @@
+-- The bounded sheet: the words that rows of copies are written as, and how words are read back (document 01, "Bounded sheet").
+-- Rests on base Lists and Copy, Words.
+use mathlib.Core.List.{List, [], _∷_, _++_, map}
+use Prim.Native.Nat.{ℕ, suc, _+_, _-_, _*_}
+use lib.ListN.{length, take, drop}
+use Rattle.base.specs.Copy.{Copy}
+use Rattle.formats.specs.Words.{word, follow}
+
+-- WRITING
+
+-- a copy, and the words of its targets in chain order, 0 for the exception exit
+pub record Row : Type 0 where
+  pub copy : Copy
+  pub targetWords : List ℕ
+
+-- the number of the first edge, where a copy's edges are numbered from e; 0 where it has none
+unfoldable pub firstEdge : ℕ → List ℕ → ℕ
+firstEdge e [] = 0
+firstEdge e (t ∷ ts) = e
+
+-- the edge records of one copy, whose edges are numbered from e: "next is the following number, or 0 at the chain's end"
+unfoldable pub edgeRecords : ℕ → List ℕ → List ℕ
+edgeRecords e [] = []
+edgeRecords e (t ∷ ts) = t ∷ firstEdge (suc e) ts ∷ edgeRecords (suc e) ts
+
+-- "copy records of three words: block, low, first edge"; "Edges are numbered copy by copy in chain order"
+unfoldable pub copyWords : ℕ → List Row → List ℕ
+copyWords e [] = []
+copyWords e (r ∷ rs) = r .copy .block ∷ r .copy .low ∷ firstEdge e (r .targetWords) ∷ copyWords (e + length (r .targetWords)) rs
+
+unfoldable pub edgeWords : ℕ → List Row → List ℕ
+edgeWords e [] = []
+edgeWords e (r ∷ rs) = edgeRecords e (r .targetWords) ++ edgeWords (e + length (r .targetWords)) rs
+
+unfoldable pub edgeCount : List Row → ℕ
+edgeCount [] = 0
+edgeCount (r ∷ rs) = length (r .targetWords) + edgeCount rs
+
+-- the records, behind any header
+abbrev pub recordWords : List Row → List ℕ
+recordWords rs = copyWords 1 rs ++ edgeWords 1 rs
+
+-- "Three words: C copies, F edges, B", then the records
+unfoldable pub sheetWords : ℕ → List Row → List ℕ
+sheetWords b rs = length rs ∷ edgeCount rs ∷ b ∷ recordWords rs
+
+-- READING
+
+-- what the header says: C copies, F edges, the budget, and the word at which the records begin, counted from 0
+pub record Heading : Type 0 where
+  pub copies : ℕ
+  pub edges : ℕ
+  pub budget : ℕ
+  pub records : ℕ
+
+unfoldable pub heading : List ℕ → Heading
+heading s = record { copies = word s 0; edges = word s 1; budget = word s 2; records = 3 }
+
+-- the length of a sheet with this header
+abbrev pub boundedLength : Heading → ℕ
+boundedLength h = h .records + 3 * h .copies + 2 * h .edges
+
+module _ (h : Heading) (s : List ℕ) where
+  unfoldable pub blockAt : ℕ → ℕ
+  blockAt i = word s (h .records + 3 * (i - 1))
+
+  unfoldable pub lowAt : ℕ → ℕ
+  lowAt i = word s (h .records + 3 * (i - 1) + 1)
+
+  unfoldable pub firstAt : ℕ → ℕ
+  firstAt i = word s (h .records + 3 * (i - 1) + 2)
+
+  unfoldable pub targetAt : ℕ → ℕ
+  targetAt e = word s (h .records + 3 * h .copies + 2 * (e - 1))
+
+  unfoldable pub nextAt : ℕ → ℕ
+  nextAt e = word s (h .records + 3 * h .copies + 2 * (e - 1) + 1)
+
+  unfoldable pub copyAt : ℕ → Copy
+  copyAt i = record { block = blockAt i; low = lowAt i }
+
+  -- a copy's chain, by edge numbers, and its targets
+  unfoldable pub chainAt : ℕ → List ℕ
+  chainAt i = follow nextAt (suc (h .edges)) (firstAt i)
+
+  unfoldable pub targetsAt : ℕ → List ℕ
+  targetsAt i = map targetAt (chainAt i)
+
+-- the edge words of one copy, which stand together
+unfoldable pub edgePart : List ℕ → ℕ → List ℕ
+edgePart s i =
+    let h = heading s in
+    take (2 * length (chainAt h s i)) (drop (h .records + 3 * h .copies + 2 * (firstAt h s i - 1)) s)

@@ -1,0 +1,15 @@
+-- Graph sheets and bounded sheets as rows of words, files as bytes, listings as text; nothing of completions or walks.
+-- every limit by its name
+pub mod Limits
+-- rows of words, chains of records
+pub mod Words
+-- the graph sheet, conditions 1 to 8, the number of successors
+pub mod GraphSheet
+-- the bounded sheet, written and read
+pub mod BoundedSheet
+-- rule 11, and the edge words handed out
+pub mod Rule11
+-- a file's bytes as words
+pub mod File
+-- a listing's text
+pub mod Listing

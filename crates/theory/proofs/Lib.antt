@@ -1,0 +1,21 @@
+-- the test of a completion cost is exactly the completions, the look-up gives the largest, the key lemma:
+-- completes-sound, completes-complete, low-some, low-none, same-low
+pub mod Completions
+-- the monitor is document 01's watch, sentence by sentence: acts-as-watch
+pub mod Watch
+-- machines that keep a relation answer alike: agree-all, runs-as
+pub mod Runs
+-- the monitor and the walk over copies: follows-all
+pub mod Simulation
+-- a walk over copies ends within one move more than its budget and is never stuck: timely-all, early, never-stuck
+pub mod Counts
+-- a path runs unchanged exactly where it costs at most the low of its first copy: runs, only
+pub mod Paths
+-- the copies are exactly those that are reached from the start copies: reached-in, in-reached
+pub mod Reach
+-- the copies rise by block, then low: copies-rise
+pub mod Order
+-- a bounded graph that lays the copies out keeps the promises from every entry: agrees, paths-kept
+pub mod Agreement
+-- no walk from an entry gets out of shape: monitor-kept, held-shape
+pub mod Shape

@@ -1,0 +1,37 @@
+-- Graphs, completions of blocks by their costs, and the look-up of a cost (document 01, "Completions and copies").
+-- Rests on base Lists.
+use mathlib.Core.Path.{_≡_}
+use mathlib.Core.Bool.{Bool, true, false, _&&_, _||_}
+use mathlib.Core.List.{List, List·Memᴰ}
+use mathlib.Core.Option.{Option, some, none}
+use Prim.Native.Nat.{ℕ, zero, suc, _+_, _-_}
+use lib.Dec.{leb, eqb}
+use Rattle.base.specs.Lists.{any}
+
+-- a block's cost, and its successors in order; block 1 is the start, block 2 the exit
+pub record Graph : Type 0 where
+  pub cost : ℕ → ℕ
+  pub next : ℕ → List ℕ
+
+-- "A completion of block v is a path from v to the exit; its cost sums all its blocks, v included."
+pub data Completion (g : Graph) : ℕ → ℕ → Type 0 where
+  exit : Completion g 2 0
+  step : {v t c n : ℕ} → List·Memᴰ t (g .next v) → Completion g t c → n ≡ g .cost v + c → Completion g v n
+
+-- the same as a test, for paths of at most k edges
+unfoldable pub within : Graph → ℕ → ℕ → ℕ → Bool
+within g zero v c = eqb v 2 && eqb c 0
+within g (suc k) v c = (eqb v 2 && eqb c 0) || (leb (g .cost v) c && any (λ t. within g k t (c - g .cost v)) (g .next v))
+
+-- v has a completion costing c: where every block but the start and the exit costs something, such a path has at most c + 1 edges
+unfoldable pub completes : Graph → ℕ → ℕ → Bool
+completes g v c = within g (suc c) v c
+
+-- the largest number up to r that passes a test
+unfoldable pub largest : (ℕ → Bool) → ℕ → Option ℕ
+largest f zero = elim (f zero) [ true ↦ some zero | false ↦ none ]
+largest f (suc r) = elim (f (suc r)) [ true ↦ some (suc r) | false ↦ largest f r ]
+
+-- the largest completion cost of v at or below r
+unfoldable pub lowOf : Graph → ℕ → ℕ → Option ℕ
+lowOf g v r = largest (completes g v) r

@@ -1,0 +1,11 @@
+-- Graphs with costs, their copies within budgets, and the machines that walk on them: for any graph and any budgets, with no words and no limits.
+-- graphs, completions, the look-up of a completion cost
+pub mod Completions
+-- the copies that are reached from some start copies
+pub mod Copies
+-- machines that move by choices, and runs
+pub mod Machines
+-- the monitor, the walk over copies, the walk on a bounded graph, paths
+pub mod Walks
+-- what the theorems are about, and what they promise
+pub mod Setting

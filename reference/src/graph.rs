@@ -1,0 +1,188 @@
+// The graph sheet: its checks (refusals 1 to 8), the graph read from it, the number of successors.
+// It rests on the section "Graph sheet" and rows 1 to 8 of the first table of refusals.
+
+/// A graph read from an accepted sheet. Blocks are numbered from 1; place 0 of each row is unused.
+pub(crate) struct Graph {
+    pub(crate) blocks: usize,
+    pub(crate) budget: usize,
+    costs: Vec<usize>,
+    successors: Vec<Vec<usize>>,
+}
+
+impl Graph {
+    /// The graph of this sheet, or the number of the refusal.
+    pub(crate) fn read(words: &[u16]) -> Result<Graph, u16> {
+        let answer = check_graph(words);
+        if answer != 0 {
+            return Err(answer);
+        }
+        let sheet = Sheet { words };
+        let mut costs = vec![0];
+        let mut successors = vec![Vec::new()];
+        for block in 1..=sheet.blocks() {
+            costs.push(sheet.cost(block));
+            let mut targets = Vec::new();
+            let mut edge = sheet.first_edge(block);
+            while edge != 0 {
+                targets.push(sheet.target(edge));
+                edge = sheet.next_edge(edge);
+            }
+            successors.push(targets);
+        }
+        Ok(Graph { blocks: sheet.blocks(), budget: sheet.budget(), costs, successors })
+    }
+
+    /// The cost of a block in 1..=N.
+    pub(crate) fn cost(&self, block: usize) -> usize {
+        self.costs[block]
+    }
+
+    /// The successors of a block in 1..=N, in chain order.
+    pub(crate) fn successors(&self, block: usize) -> &[usize] {
+        &self.successors[block]
+    }
+
+    /// The number of bytes a work area must have.
+    pub(crate) fn area_needed(&self) -> usize {
+        self.blocks * (self.budget + 1)
+    }
+}
+
+/// The words of a sheet by their place in the records. Only used once the length is known to fit.
+struct Sheet<'a> {
+    words: &'a [u16],
+}
+
+impl Sheet<'_> {
+    fn blocks(&self) -> usize {
+        usize::from(self.words[0])
+    }
+    fn edges(&self) -> usize {
+        usize::from(self.words[1])
+    }
+    fn budget(&self) -> usize {
+        usize::from(self.words[2])
+    }
+    fn cost(&self, block: usize) -> usize {
+        usize::from(self.words[3 + 2 * (block - 1)])
+    }
+    fn first_edge(&self, block: usize) -> usize {
+        usize::from(self.words[3 + 2 * (block - 1) + 1])
+    }
+    fn target(&self, edge: usize) -> usize {
+        usize::from(self.words[3 + 2 * self.blocks() + 2 * (edge - 1)])
+    }
+    fn next_edge(&self, edge: usize) -> usize {
+        usize::from(self.words[3 + 2 * self.blocks() + 2 * (edge - 1) + 1])
+    }
+}
+
+/// 0 for an accepted graph sheet, else the first refusal in the order 1 to 8.
+pub fn check_graph(words: &[u16]) -> u16 {
+    // 1: fewer than 3 words.
+    if words.len() < 3 {
+        return 1;
+    }
+    let sheet = Sheet { words };
+    let (blocks, edges) = (sheet.blocks(), sheet.edges());
+
+    // 2: N or E outside its limit.
+    if blocks < 2 || blocks > 128 || edges < 1 || edges > 512 {
+        return 2;
+    }
+
+    // 3: not exactly 3 + 2N + 2E words.
+    if words.len() != 3 + 2 * blocks + 2 * edges {
+        return 3;
+    }
+
+    // 4: B above 500.
+    if sheet.budget() > 500 {
+        return 4;
+    }
+
+    // 5: block 1 or 2 with a cost, or another block with cost 0.
+    for block in 1..=blocks {
+        let trusted = block == 1 || block == 2;
+        let free = sheet.cost(block) == 0;
+        if trusted != free {
+            return 5;
+        }
+    }
+
+    // 6: a target that is 0, 1 or above N, in any edge record.
+    for edge in 1..=edges {
+        let target = sheet.target(edge);
+        if target == 0 || target == 1 || target > blocks {
+            return 6;
+        }
+    }
+
+    // 7: following all chains meets an edge number above E, or an edge twice, or misses an edge.
+    let mut met = vec![false; edges + 1];
+    for block in 1..=blocks {
+        let mut edge = sheet.first_edge(block);
+        while edge != 0 {
+            if edge > edges || met[edge] {
+                return 7;
+            }
+            met[edge] = true;
+            edge = sheet.next_edge(edge);
+        }
+    }
+    for edge in 1..=edges {
+        if !met[edge] {
+            return 7;
+        }
+    }
+
+    // 8: the exit has a chain.
+    if sheet.first_edge(2) != 0 {
+        return 8;
+    }
+    0
+}
+
+/// The answer and the number of successors of a block: 1 to 8, then 33 for a block outside 1..=N.
+pub fn successor_count(words: &[u16], block: u16) -> (u16, u16) {
+    let graph = match Graph::read(words) {
+        Ok(graph) => graph,
+        Err(answer) => return (answer, 0),
+    };
+    let block = usize::from(block);
+    if block < 1 || block > graph.blocks {
+        return (33, 0);
+    }
+    // At most 512 edges, so the count fits a word.
+    (0, graph.successors(block).len() as u16)
+}
+
+/// A graph sheet written from costs and successors (place 0 is block 1), edges numbered in order.
+pub fn graph_sheet(costs: &[u16], successors: &[Vec<u16>], budget: u16) -> Vec<u16> {
+    let edges: usize = successors.iter().map(|targets| targets.len()).sum();
+    let mut words = vec![costs.len() as u16, edges as u16, budget];
+    let mut edge_records = Vec::new();
+    let mut number: usize = 0;
+    for (index, cost) in costs.iter().enumerate() {
+        let none = Vec::new();
+        let targets = successors.get(index).unwrap_or(&none);
+        words.push(*cost);
+        words.push(if targets.is_empty() { 0 } else { (number + 1) as u16 });
+        for (position, target) in targets.iter().enumerate() {
+            number += 1;
+            let last = position + 1 == targets.len();
+            edge_records.push(*target);
+            edge_records.push(if last { 0 } else { (number + 1) as u16 });
+        }
+    }
+    words.extend(edge_records);
+    words
+}
+
+/// The worked example of document 01 with this budget.
+pub fn paper_example(budget: u16) -> Vec<u16> {
+    let costs = [0, 0, 2, 1, 4, 1, 1, 5];
+    let successors =
+        [vec![3], vec![], vec![4, 5], vec![6], vec![6], vec![7, 8], vec![2], vec![2]];
+    graph_sheet(&costs, &successors, budget)
+}

@@ -1,0 +1,38 @@
+// The listing program's whole output for the bytes of a graph sheet.
+// It rests on construction.rs and the section with the worked example of document 01.
+
+use crate::construction::build;
+
+/// Enough for any accepted sheet: 128 blocks and budget 500; 4,096 copies and 8,192 edges.
+const LARGEST_AREA: usize = 128 * 501;
+const LARGEST_OUTPUT: usize = 3 + 3 * 4096 + 2 * 8192;
+
+/// The listing, or `refused` and the number. Every line ends with a newline.
+pub fn listing(bytes: &[u8]) -> String {
+    if bytes.len() % 2 == 1 {
+        return String::from("refused 1\n");
+    }
+    // Two bytes for each word, lower byte first.
+    let words: Vec<u16> =
+        bytes.chunks(2).map(|pair| u16::from(pair[0]) + 256 * u16::from(pair[1])).collect();
+    let built = build(&words, &vec![0; LARGEST_AREA], &vec![0; LARGEST_OUTPUT]);
+    if built.answer != 0 {
+        return format!("refused {}\n", built.answer);
+    }
+
+    let sheet = &built.output;
+    let copies = usize::from(sheet[0]);
+    let mut text = format!("copies {} edges {} budget {}\n", sheet[0], sheet[1], sheet[2]);
+    for copy in 1..=copies {
+        let record = 3 + 3 * (copy - 1);
+        text += &format!("{} {} {}", copy, sheet[record], sheet[record + 1]);
+        let mut edge = usize::from(sheet[record + 2]);
+        while edge != 0 {
+            let record = 3 + 3 * copies + 2 * (edge - 1);
+            text += &format!(" {}", sheet[record]);
+            edge = usize::from(sheet[record + 1]);
+        }
+        text += "\n";
+    }
+    text
+}

@@ -1,0 +1,230 @@
+// The command line tool: `reference listing < sheet` and `reference cases SEED COUNT SIZE`.
+// It rests on the library and its random material; it prints what the library answers.
+
+use reference::random::{self, Random, Size};
+use reference::{
+    bounded_move, build, check_bounded, check_graph, edge_words, listing, monitored_move,
+    successor_count, End, Monitor, Walk,
+};
+use std::io::{self, BufWriter, Read, Write};
+use std::process::ExitCode;
+
+const USAGE: &str = "usage: reference listing < sheet\n       reference cases SEED COUNT tiny|small|any";
+
+fn main() -> ExitCode {
+    let arguments: Vec<String> = std::env::args().skip(1).collect();
+    let arguments: Vec<&str> = arguments.iter().map(String::as_str).collect();
+    let done = match arguments[..] {
+        ["listing"] => print_listing(),
+        ["cases", seed, count, size] => match (seed.parse(), count.parse(), size_named(size)) {
+            (Ok(seed), Ok(count), Some(size)) => print_cases(seed, count, size),
+            _ => return usage(),
+        },
+        _ => return usage(),
+    };
+    match done {
+        Ok(()) => ExitCode::SUCCESS,
+        Err(error) if error.kind() == io::ErrorKind::BrokenPipe => ExitCode::SUCCESS,
+        Err(error) => {
+            eprintln!("{error}");
+            ExitCode::from(1)
+        }
+    }
+}
+
+fn usage() -> ExitCode {
+    eprintln!("{USAGE}");
+    ExitCode::from(2)
+}
+
+fn size_named(name: &str) -> Option<Size> {
+    match name {
+        "tiny" => Some(Size::Tiny),
+        "small" => Some(Size::Small),
+        "any" => Some(Size::Any),
+        _ => None,
+    }
+}
+
+fn print_listing() -> io::Result<()> {
+    let mut bytes = Vec::new();
+    io::stdin().lock().read_to_end(&mut bytes)?;
+    io::stdout().lock().write_all(listing(&bytes).as_bytes())
+}
+
+fn print_cases(seed: u64, count: usize, size: Size) -> io::Result<()> {
+    let mut random = Random::new(seed);
+    let mut out = BufWriter::new(io::stdout().lock());
+    for index in 0..count {
+        let fields = match index % 8 {
+            0 => graph_case(&mut random, size),
+            1 => count_case(&mut random, size),
+            2 => build_case(&mut random, size),
+            3 => bounded_case(&mut random, size),
+            4 => monitored_case(&mut random, size),
+            5 => move_case(&mut random, size),
+            6 => part_case(&mut random, size),
+            _ => run_case(&mut random, size),
+        };
+        writeln!(out, "{}", fields.join("\t"))?;
+    }
+    out.flush()
+}
+
+/// Numbers separated by single spaces.
+fn row<T: ToString>(numbers: &[T]) -> String {
+    let texts: Vec<String> = numbers.iter().map(|number| number.to_string()).collect();
+    texts.join(" ")
+}
+
+fn walk_text(walk: Walk) -> String {
+    let end = match walk.end {
+        End::Going => 0,
+        End::Exit => 1,
+        End::Diverted => 2,
+    };
+    format!("{} {} {}", walk.place, walk.count, end)
+}
+
+/// A graph sheet that is valid in so many cases of a hundred.
+fn graph_words(random: &mut Random, size: Size, valid: usize) -> Vec<u16> {
+    if random.chance(valid) {
+        random::valid_graph(random, size)
+    } else {
+        random::damaged_graph(random, size)
+    }
+}
+
+/// A bounded sheet that is undamaged in so many cases of a hundred.
+fn bounded_words(random: &mut Random, size: Size, sound: usize) -> Vec<u16> {
+    if random.chance(sound) {
+        random::sound_bounded_sheet(random, size)
+    } else {
+        random::damaged_bounded_sheet(random, size)
+    }
+}
+
+/// A length near the needed one: exact, longer, or shorter.
+fn length_near(random: &mut Random, needed: usize) -> usize {
+    match random.below(10) {
+        0 => needed.saturating_sub(1),
+        1 => random.pick(&[0, 1, needed / 2, needed.saturating_sub(2)]),
+        2..=5 => needed,
+        6 => needed + 1,
+        _ => needed + random.between(1, 5),
+    }
+}
+
+/// A length of the work area near N * (B + 1), or some short length under a refused header.
+fn area_length(random: &mut Random, words: &[u16]) -> usize {
+    let needed = match check_graph(words) {
+        1..=4 => random.below(40),
+        _ => usize::from(words[0]) * (usize::from(words[2]) + 1),
+    };
+    length_near(random, needed)
+}
+
+fn graph_case(random: &mut Random, size: Size) -> Vec<String> {
+    let words = graph_words(random, size, 30);
+    vec!["graph".into(), row(&words), check_graph(&words).to_string()]
+}
+
+fn count_case(random: &mut Random, size: Size) -> Vec<String> {
+    let words = graph_words(random, size, 70);
+    let blocks = words.first().map_or(3, |blocks| usize::from(*blocks));
+    let block = match random.below(10) {
+        0 => random.pick(&[0, blocks + 1, 65535]).min(65535),
+        1 => 2,
+        _ => random.between(1, blocks),
+    };
+    let (answer, count) = successor_count(&words, block as u16);
+    vec!["count".into(), row(&words), block.to_string(), answer.to_string(), count.to_string()]
+}
+
+fn build_case(random: &mut Random, size: Size) -> Vec<String> {
+    let words = graph_words(random, size, 80);
+    let area_length = area_length(random, &words);
+    let needed = match random::built_words(&words) {
+        Some(built) => built.len(),
+        None => random.below(20),
+    };
+    let output_length = length_near(random, needed);
+    let built = build(&words, &vec![7; area_length], &vec![9; output_length]);
+    vec![
+        "build".into(),
+        row(&words),
+        area_length.to_string(),
+        output_length.to_string(),
+        built.answer.to_string(),
+        row(&built.area),
+        row(&built.output),
+    ]
+}
+
+fn bounded_case(random: &mut Random, size: Size) -> Vec<String> {
+    let words = bounded_words(random, size, 30);
+    vec!["bounded".into(), row(&words), check_bounded(&words).to_string()]
+}
+
+fn monitored_case(random: &mut Random, size: Size) -> Vec<String> {
+    let words = if random.chance(70) {
+        random::buildable_graph(random, size)
+    } else {
+        graph_words(random, size, 60)
+    };
+    let area_length = area_length(random, &words);
+    let walk = random::graph_walk(random, &words);
+    let choice = random::graph_choice(random, &words, walk);
+    let (answer, after, _) = monitored_move(&words, &vec![7; area_length], walk, choice);
+    vec![
+        "monitored".into(),
+        row(&words),
+        area_length.to_string(),
+        walk_text(walk),
+        choice.to_string(),
+        answer.to_string(),
+        walk_text(after),
+    ]
+}
+
+fn move_case(random: &mut Random, size: Size) -> Vec<String> {
+    let words = bounded_words(random, size, 80);
+    let walk = random::bounded_walk(random, &words);
+    let choice = random::bounded_choice(random, &words, walk);
+    let (answer, after) = bounded_move(&words, walk, choice);
+    vec![
+        "move".into(),
+        row(&words),
+        walk_text(walk),
+        choice.to_string(),
+        answer.to_string(),
+        walk_text(after),
+    ]
+}
+
+fn part_case(random: &mut Random, size: Size) -> Vec<String> {
+    let words = bounded_words(random, size, 80);
+    let copies = words.first().map_or(3, |copies| usize::from(*copies));
+    let copy = match random.below(8) {
+        0 => random.pick(&[0, copies + 1, 65535, 65537, 4294967295]),
+        1 => 2,
+        _ => random.between(1, copies),
+    };
+    let (answer, part) = edge_words(&words, copy as u32);
+    vec!["part".into(), row(&words), copy.to_string(), answer.to_string(), row(&part)]
+}
+
+fn run_case(random: &mut Random, size: Size) -> Vec<String> {
+    let words = random::buildable_graph(random, size);
+    let choices = random::choices(random, &words);
+    let mut state = Walk::start();
+    let mut answers = Vec::new();
+    if let Ok(monitor) = Monitor::new(&words) {
+        for choice in &choices {
+            let (answer, after) = monitor.step(state, *choice);
+            answers.push(answer);
+            state = after;
+        }
+    }
+    vec!["run".into(), row(&words), row(&choices), row(&answers), walk_text(state)]
+}
