@@ -214,8 +214,24 @@ fn part_case(random: &mut Random, size: Size) -> Vec<String> {
     vec!["part".into(), row(&words), copy.to_string(), answer.to_string(), row(&part)]
 }
 
+/// Whether the build of this graph sheet is accepted and has a target 0.
+fn has_diverted_edge(words: &[u16]) -> bool {
+    let sheet = random::built_words(words).unwrap_or_default();
+    let copies = sheet.first().map_or(0, |copies| usize::from(*copies));
+    sheet.iter().skip(3 + 3 * copies).step_by(2).any(|target| *target == 0)
+}
+
 fn run_case(random: &mut Random, size: Size) -> Vec<String> {
-    let words = random::buildable_graph(random, size);
+    let mut words = random::buildable_graph(random, size);
+    if random.chance(60) {
+        // Rather a graph where some edge is diverted.
+        for _ in 0..20 {
+            if has_diverted_edge(&words) {
+                break;
+            }
+            words = random::buildable_graph(random, size);
+        }
+    }
     let choices = random::choices(random, &words);
     let mut state = Walk::start();
     let mut answers = Vec::new();

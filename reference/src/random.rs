@@ -306,8 +306,11 @@ pub fn valid_graph(random: &mut Random, size: Size) -> Vec<u16> {
     }
     let (most_blocks, most_edges, most_budget) = limits(random, size);
     let full = random.chance(10);
-    let blocks = if full { most_blocks } else { random.between(2, most_blocks) };
-    let edges = if full { most_edges } else { random.between(1, most_edges) };
+    let mut blocks = random.between(2, most_blocks).max(random.between(2, most_blocks));
+    let mut edges = random.between(1, most_edges).max(random.between(1, most_edges));
+    if full {
+        (blocks, edges) = (most_blocks, most_edges);
+    }
     let mut draft = Draft::empty(blocks);
     draft_edges(random, &mut draft, edges);
     draft_costs(random, &mut draft, most_budget);
@@ -345,7 +348,7 @@ fn change_a_word(random: &mut Random, words: &mut [u16]) {
 }
 
 fn change_the_length(random: &mut Random, words: &mut Vec<u16>) {
-    match random.below(5) {
+    match random.below(6) {
         // A word dropped.
         0 if !words.is_empty() => {
             let index = random.below(words.len());
@@ -362,7 +365,7 @@ fn change_the_length(random: &mut Random, words: &mut Vec<u16>) {
         3 => words.push(random.below(5) as u16),
         // A row cut short.
         _ => {
-            let length = if random.chance(50) { random.below(5) } else { random.below(words.len()) };
+            let length = if random.chance(60) { random.below(4) } else { random.below(words.len()) };
             words.truncate(length);
         }
     }
@@ -373,13 +376,13 @@ fn damage_graph(random: &mut Random, words: &mut Vec<u16>) {
     let (blocks, edges) = (get(words, 0), get(words, 1));
     let block = random.between(1, blocks.max(1));
     let edge = random.between(1, edges.max(1));
-    match random.below(13) {
+    match random.below(14) {
         0 => change_a_word(random, words),
         1 => {
             change_a_word(random, words);
             change_a_word(random, words);
         }
-        2 => change_the_length(random, words),
+        2 | 13 => change_the_length(random, words),
         // Header words at and past each limit, with or without the row's length to match.
         3 | 4 => {
             match random.below(3) {
@@ -419,7 +422,8 @@ fn damage_graph(random: &mut Random, words: &mut Vec<u16>) {
             _ => {
                 let first = get(words, first_at(block));
                 if first != 0 {
-                    set(words, first_at(block), get(words, next_at(blocks, first)));
+                    let second = get(words, next_at(blocks, first));
+                    set(words, first_at(block), second);
                 }
             }
         },
@@ -560,8 +564,11 @@ fn damage_bounded(random: &mut Random, words: &mut Vec<u16>) {
         }
         // A block or a low moved by one or to an edge of its range.
         4 => set(words, copy_record, random.pick(&[0, 1, 2, 127, 128, 129])),
-        5 => set(words, copy_record, get(words, copy_record) + 1),
-        6 => set(words, copy_record, get(words, copy_record).saturating_sub(1)),
+        5 | 6 => {
+            let block = get(words, copy_record);
+            let value = random.pick(&[block + 1, block.saturating_sub(1)]);
+            set(words, copy_record, value);
+        }
         7 => {
             let low = get(words, copy_record + 1);
             let value = random.pick(&[0, low + 1, low.saturating_sub(1), budget, budget + 1]);
@@ -721,7 +728,7 @@ pub fn choices(random: &mut Random, words: &[u16]) -> Vec<u32> {
         return list;
     }
     // A careful list avoids being diverted where it can; a steady one has valid choices only.
-    let careful = random.chance(50);
+    let careful = random.chance(35);
     let steady = random.chance(30);
     let all = get(words, 2) + 4;
     let most = if random.chance(15) { all } else { random.between(1, all.min(40)) };

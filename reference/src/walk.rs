@@ -1,5 +1,5 @@
 // Walks: the monitored move on a graph sheet, the bounded move on a bounded sheet, and the monitor.
-// It rests on graph.rs, construction.rs, bounded.rs and the sections "Walks" and "The watch".
+// It rests on graph.rs, construction.rs, bounded.rs and the sections on walks and on the list of choices.
 
 use crate::bounded::Bounded;
 use crate::construction::Completions;
@@ -42,7 +42,7 @@ fn chosen(targets: &[usize], choice: u32) -> Option<usize> {
     Some(targets[choice as usize - 1])
 }
 
-/// The watched move: answers 1 to 8, 21, 9, 33, 32, 31, 0; the walk and the work area after it.
+/// The monitored move: answers 1 to 8, 21, 9, 33, 32, 31, 0; the walk and the work area after it.
 pub fn monitored_move(
     words: &[u16],
     area: &[u8],
@@ -133,7 +133,7 @@ pub fn bounded_move(words: &[u16], walk: Walk, choice: u32) -> (u16, Walk) {
     (0, after)
 }
 
-/// The plain watch over one graph sheet. It knows of each block its cheapest completion, found
+/// The plain monitor of one graph sheet. It knows of each block its cheapest completion, found
 /// by relaxing the edges until nothing changes, and nothing that a build or a walk has written.
 pub struct Monitor {
     graph: Graph,

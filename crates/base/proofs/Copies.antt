@@ -13,7 +13,7 @@ use lib.Dec.{eqb, ltb}
 use Rattle.base.specs.Lists.{keep, from, chosen}
 use Rattle.base.specs.Copy.{Copy, copyOf, same, before, isIn, numberFrom}
 use Rattle.base.proofs.Truth.{not-both, and-i, and-e, or-l, or-r, or-e, any-i, any-e}
-use Rattle.base.proofs.Lists.{keep-e, from-e, chosen-mem}
+use Rattle.base.proofs.Lists.{keep-e, from-e, chosen-mem, Distinct}
 
 -- the test of two copies is their equality
 pub same-is : (c d : Copy) → same c d ≡ true → c ≡ d
@@ -113,12 +113,6 @@ rising-first [] h c m n = absurd (List·Memᴰ·not-nil m)
 rising-first (d ∷ ds) h c m n =
     ⊎-elim (λ e. (ds, ap (λ (x : Copy). x ∷ ds) (sym e))) (λ k. absurd (n d (List·Memᴰ·head refl) (h .0 c k))) (List·Memᴰ·cases-cons m)
 
--- DISTINCT
-
-unfoldable pub Distinct : {A : Type 0} → List A → Type 0
-Distinct [] = Unit {0}
-Distinct (x ∷ xs) = (List·Memᴰ x xs → ⊥) × Distinct xs
-
 pub not-before : (c : Copy) → before c c ≡ true → ⊥
 not-before c p = ⊎-elim (λ l. omega arith) (λ q. omega (arith, q .1)) (before-cases c c p)
 
@@ -147,16 +141,3 @@ number-place c cs m = let r = number-of c cs 1 m in (r .0, r .1 ∙ omega arith,
 
 pub number-chosen : (c : Copy) (cs : List Copy) → List·Memᴰ c cs → chosen cs (numberFrom 1 c cs) ≡ some c
 number-chosen c cs m = let r = number-place c cs m in ap (chosen cs) (r .1) ∙ r .2
-
--- different places hold different copies
-pub one-place : {A : Type 0} (xs : List A) → Distinct xs → (i j : ℕ) (x : A) → chosen xs i ≡ some x → chosen xs j ≡ some x → i ≡ j
-unfolding Distinct chosen
-one-place xs d zero j x p q = absurd (Option·none-ne-some x p)
-one-place xs d (suc i) zero x p q = absurd (Option·none-ne-some x q)
-one-place [] d (suc i) (suc j) x p q = absurd (Option·none-ne-some x p)
-one-place (y ∷ xs) d (suc zero) (suc zero) x p q = refl
-one-place {A} (y ∷ xs) d (suc zero) (suc (suc j)) x p q =
-    absurd (d .0 (subst (λ (z : A). List·Memᴰ z xs) (sym (Option·some-injective y x p)) (chosen-mem xs (suc j) x q)))
-one-place {A} (y ∷ xs) d (suc (suc i)) (suc zero) x p q =
-    absurd (d .0 (subst (λ (z : A). List·Memᴰ z xs) (sym (Option·some-injective y x q)) (chosen-mem xs (suc i) x p)))
-one-place (y ∷ xs) d (suc (suc i)) (suc (suc j)) x p q = ap suc (one-place xs (d .1) (suc i) (suc j) x p q)

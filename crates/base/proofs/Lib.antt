@@ -6,3 +6,5 @@ pub mod Lists
 pub mod Copies
 -- orders of refusals: unrefused, passed, over-i, over-e; limits
 pub mod Orders
+-- different numbers from 1 to n are at most n
+pub mod Pigeonhole

@@ -159,3 +159,40 @@ module _ (f : ℕ → Bool) (a : ℕ) where
           rw (ap f e ∙ p, keep)
           (ap₂ (λ y l. y ∷ l) e (keep-none k (suc x) (omega arith) (λ y p q. only y (omega arith) (omega arith))))
       go (no e) below = rw (rejects x (only x (omega arith) (omega arith)) e, keep) (below (omega arith) (omega arith))
+
+-- DIFFERENT ELEMENTS
+
+unfoldable pub Distinct : {A : Type 0} → List A → Type 0
+Distinct [] = Unit {0}
+Distinct (x ∷ xs) = (List·Memᴰ x xs → ⊥) × Distinct xs
+
+-- different places hold different elements
+pub one-place : {A : Type 0} (xs : List A) → Distinct xs → (i j : ℕ) (x : A) → chosen xs i ≡ some x → chosen xs j ≡ some x → i ≡ j
+unfolding Distinct chosen
+one-place xs d zero j x p q = absurd (Option·none-ne-some x p)
+one-place xs d (suc i) zero x p q = absurd (Option·none-ne-some x q)
+one-place [] d (suc i) (suc j) x p q = absurd (Option·none-ne-some x p)
+one-place (y ∷ xs) d (suc zero) (suc zero) x p q = refl
+one-place {A} (y ∷ xs) d (suc zero) (suc (suc j)) x p q =
+    absurd (d .0 (subst (λ (z : A). List·Memᴰ z xs) (sym (Option·some-injective y x p)) (chosen-mem xs (suc j) x q)))
+one-place {A} (y ∷ xs) d (suc (suc i)) (suc zero) x p q =
+    absurd (d .0 (subst (λ (z : A). List·Memᴰ z xs) (sym (Option·some-injective y x q)) (chosen-mem xs (suc i) x p)))
+one-place (y ∷ xs) d (suc (suc i)) (suc (suc j)) x p q = ap suc (one-place xs (d .1) (suc i) (suc j) x p q)
+
+-- a list among lists that are different together is of different elements
+distinct-front : {A : Type 0} (xs ys : List A) → Distinct (xs ++ ys) → Distinct xs
+unfolding Distinct
+distinct-front [] ys d = tt
+distinct-front (x ∷ xs) ys d = (λ m. d .0 (Memᴰ·append-left ys m), distinct-front xs ys (d .1))
+
+distinct-back : {A : Type 0} (xs ys : List A) → Distinct (xs ++ ys) → Distinct ys
+unfolding Distinct
+distinct-back [] ys d = d
+distinct-back (x ∷ xs) ys d = distinct-back xs ys (d .1)
+
+pub distinct-part : {A B : Type 0} (f : A → List B) {a : A} (xs : List A) → Distinct (each f xs) → List·Memᴰ a xs → Distinct (f a)
+unfolding each
+distinct-part f [] d m = absurd (List·Memᴰ·not-nil m)
+distinct-part {A} f (x ∷ xs) d m =
+    ⊎-elim (λ e. subst (λ (z : A). Distinct (f z)) (sym e) (distinct-front (f x) (each f xs) d))
+    (λ n. distinct-part f xs (distinct-back (f x) (each f xs) d) n) (List·Memᴰ·cases-cons m)

@@ -1,5 +1,13 @@
+-- chains: chain-length-is, follow-ends
+pub mod Chains
+-- what conditions 1 to 8 give of an accepted graph sheet: blocks, edges, paid, target-inside, chain-ends, successors-counted
+pub mod Accepted
 -- a written bounded sheet reads back: reads, part-reads, met
 pub mod Reading
 -- rule 11, clause by clause, is that a sheet is written from rows that fit: fits-rule; rule11
 pub mod RuleKept
 pub mod RuleRead
+-- every word of such a sheet fits 16 bits: words-fit
+pub mod WordsFit
+-- the edge words handed out are those of the copy's chain: handed-out
+pub mod Parts

@@ -11,7 +11,7 @@ use native.Mathlib.Decide.{ℕ-discrete}
 use borrow.Author.Tests.{eq-eqb, ne-eqb, eqb-true, le-ltb}
 use lib.Dec.{eqb, ltb}
 use lib.ListN.{length, length-append}
-use Rattle.base.specs.Lists.{from, chosen, equal}
+use Rattle.base.specs.Lists.{all, from, chosen, equal}
 use Rattle.base.specs.Copy.{before}
 use Rattle.base.proofs.Truth.{and-i, none-any}
 use Rattle.base.proofs.Lists.{each-e, from-i, from-e, chosen-map, chosen-some, chosen-le, keep-one}
@@ -21,7 +21,7 @@ use Rattle.formats.specs.BoundedSheet.{Row, firstEdge, copyWords, edgeWo
 use Rattle.formats.specs.BoundedSheet.{blockAt, lowAt, firstAt, targetAt, copyAt, chainAt, targetsAt}
 use Rattle.formats.specs.Rule11.{tooShort, badLimits, wrongLength, largeBudget, badBlocks, badLows, badCopyOrder, copiesOf}
 use Rattle.formats.specs.Rule11.{notOneOf, badExit, badEdgeOrder, badTargetWords, boundedOrder, boundedRefusal}
-use Rattle.base.proofs.Orders.{passed, none-left, not-outside}
+use Rattle.base.proofs.Orders.{Numbered, passed, none-left, not-outside}
 use Rattle.formats.proofs.Reading.{Laid, laid, Reads, reads, met, copyWords-length, edgeWords-length}
 
 -- what one row of a sheet of n copies with a budget b may say
@@ -29,7 +29,7 @@ pub record RowFits (n b : ℕ) (r : Row) : Type 0 where
   pub block : (1 ≤ r .copy .block) × (r .copy .block ≤ 128)
   pub low : r .copy .low ≤ b
   pub exit : r .copy .block ≡ 2 → (r .copy .low ≡ 0) × (r .targetWords ≡ [])
-  pub goals : (t : ℕ) → List·Memᴰ t (r .targetWords) → t ≢ 0 → (2 ≤ t) × (t ≤ n)
+  pub targets : (t : ℕ) → List·Memᴰ t (r .targetWords) → t ≢ 0 → (2 ≤ t) × (t ≤ n)
 
 -- one row alone is of block v
 pub record Once (v : ℕ) (rs : List Row) : Type 0 where
@@ -62,7 +62,7 @@ pub record RecordClauses (h : Heading) (s : List ℕ) : Type 0 where
   pub two : notOneOf h s 2 ≡ false
   pub exit : badExit h s ≡ false
   pub edges : badEdgeOrder h s ≡ false
-  pub goals : badTargetWords h s ≡ false
+  pub targets : badTargetWords h s ≡ false
 
 equal-refl : (xs : List ℕ) → equal xs xs ≡ true
 unfolding equal
@@ -162,7 +162,7 @@ module _ (h : Heading) (s : List ℕ) (rs : List Row) (L : Laid h s rs) (F : Row
       let c = each-e (chainAt h s) (from 1 (h .copies)) (subst (List·Memᴰ e) (sym (met h s rs L)) m) in
       let a = at (c .0) (c .1) in
       let t = subst (List·Memᴰ (targetAt h s e)) (a .reading .targets) (Memᴰ·map (targetAt h s) (c .2)) in
-      go (targetAt h s e) (F .row (c .0) (a .row) (a .here) .goals (targetAt h s e) t) (ℕ-discrete (targetAt h s e) 0))
+      go (targetAt h s e) (F .row (c .0) (a .row) (a .here) .targets (targetAt h s e) t) (ℕ-discrete (targetAt h s e) 0))
     where
       go : (t : ℕ) → (t ≢ 0 → (2 ≤ t) × (t ≤ length rs)) → Dec (t ≡ 0) → (not (eqb t 0) && outside 2 (h .copies) t) ≡ false
       go t f (yes e) = rw (eq-eqb t 0 e)
@@ -177,7 +177,7 @@ module _ (h : Heading) (s : List ℕ) (rs : List Row) (L : Laid h s rs) (F : Row
     two = one-fits 2 (F .two);
     exit = exit-fits;
     edges = edges-fit;
-    goals = targets-fit;
+    targets = targets-fit;
   }
 
 -- behind the header
@@ -200,4 +200,9 @@ fits-rule b rs F =
     (passed 11 _ _ s (R .two)
     (passed 11 _ _ s (R .exit)
     (passed 11 _ _ s (R .edges)
-    (passed 11 _ _ s (R .goals) (none-left s))))))))))))
+    (passed 11 _ _ s (R .targets) (none-left s))))))))))))
+
+-- no clause is numbered 0
+pub bounded-numbered : Numbered boundedOrder
+unfolding all boundedOrder
+bounded-numbered = refl

@@ -52,7 +52,7 @@ clauses s e =
     let l = unrefused 10 _ _ s (k .1) in
     let m = unrefused 10 _ _ s (l .1) in
     let R : RecordClauses (heading s) s
-    = record { size = c .0; blocks = f .0; lows = g .0; order = h .0; two = j .0; exit = k .0; edges = l .0; goals = m .0 } in
+    = record { size = c .0; blocks = f .0; lows = g .0; order = h .0; two = j .0; exit = k .0; edges = l .0; targets = m .0 } in
     record { long = a .0; limits = b .0; budget = d .0; one = i .0; records = R }
 
 -- WORDS FROM A PLACE ON
@@ -285,17 +285,17 @@ module _ (h : Heading) (s : List ℕ) (C : RecordClauses h s) where
             let p = and-e (eqb (lowAt h s i) 0) (eqb (firstAt h s i) 0) t in
             let f : firstAt h s i ≡ 0 = eqb-true (firstAt h s i) 0 (p .1) in
             (eqb-true (lowAt h s i) 0 (p .0), ap (λ (x : ℕ). map (targetAt h s) (follow (nextAt h s) (suc (h .edges)) x)) f);
-        goals = λ t k n.
+        targets = λ t k n.
             let o = Memᴰ·of-map (targetAt h s) (chainAt h s i) k in
             let e : List·Memᴰ (o .0) (from 1 (h .edges))
             = subst (List·Memᴰ (o .0)) met-is (each-i (chainAt h s) (from 1 (h .copies)) m (o .1)) in
-            goal t (o .0) (o .2) e n;
+            target t (o .0) (o .2) e n;
       }
     where
-      goal : (t e : ℕ) → targetAt h s e ≡ t → List·Memᴰ e (from 1 (h .edges)) → t ≢ 0 → (2 ≤ t) × (t ≤ length (rows h s))
-      goal t e q m n =
+      target : (t e : ℕ) → targetAt h s e ≡ t → List·Memᴰ e (from 1 (h .edges)) → t ≢ 0 → (2 ≤ t) × (t ≤ length (rows h s))
+      target t e q m n =
           let f = any-false (λ e. not (eqb (targetAt h s e) 0) && outside 2 (h .copies) (targetAt h s e)) (from 1 (h .edges))
-          (C .goals) m in
+          (C .targets) m in
           let z : eqb (targetAt h s e) 0 ≡ false = ne-eqb _ 0 (λ x. n (sym q ∙ x)) in
           let l = inside-of 2 (h .copies) (targetAt h s e) (rw z at f) in
           omega (arith, l, q, rows-length)

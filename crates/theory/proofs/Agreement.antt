@@ -20,14 +20,14 @@ use Rattle.theory.specs.Walks.{Walk, startAt, starting, endAt, mostMoves
 use Rattle.theory.specs.Walks.{Bounded, boundedTake, boundedWalk}
 use Rattle.theory.specs.Setting.{WellFormed, Setting, Entry, starts, copies, exitCopy, startCopy, entryPlace, LaysOut, Agrees}
 use Rattle.theory.specs.Setting.{PathsKept}
-use Rattle.base.proofs.Lists.{chosen-map, chosen-mem, chosen-le, chosen-some}
+use Rattle.base.proofs.Lists.{chosen-map, chosen-mem, chosen-le, chosen-some, Distinct, one-place}
 use Rattle.theory.proofs.Completions.{low-some, low-none, covers}
 use Rattle.theory.proofs.Runs.{Alike, neither, both, Keeps, agree, agree-all, shown-all, stays}
 use Rattle.theory.proofs.Simulation.{follows-keeps, follows-all, follows-start}
 use Rattle.theory.proofs.Counts.{not-diverted, Timely, timely-start, timely-all, early, never-stuck}
 use Rattle.theory.proofs.Paths.{path-completion, not-both, runs, only}
 use Rattle.theory.proofs.Reach.{targets-in, copy-sound, start-in, exit-only}
-use Rattle.base.proofs.Copies.{Distinct, before-cases, rising-chosen, rising-distinct, number-place, number-chosen, one-place}
+use Rattle.base.proofs.Copies.{before-cases, rising-chosen, rising-distinct, number-place, number-chosen}
 use Rattle.theory.proofs.Order.{copies-rise}
 
 endAt-same : (x y p q : ℕ) → eqb p x ≡ eqb q y → endAt x p ≡ endAt y q

@@ -1,0 +1,31 @@
+-- An accepted graph sheet has a well-formed graph.
+-- Rests on theory Setting, formats Accepted, SheetGraph.
+use mathlib.Core.Path.{_≡_, ap, subst, _∙_}
+use mathlib.Core.Logic.{_≢_}
+use mathlib.Core.List.{List, List·Memᴰ, List·Memᴰ·not-nil}
+use Prim.Native.Nat.{ℕ, _≤_}
+use native.Mathlib.Omega.{arith}
+use Rattle.theory.specs.Setting.{WellFormed}
+use Rattle.formats.specs.GraphSheet.{header, successors}
+use Rattle.formats.proofs.Accepted.{Accepted, blocks, free, paid, source-inside, target-inside, no-successor}
+use Rattle.calls.specs.SheetGraph.{graph}
+
+pub well-formed : (w : List ℕ) → Accepted w → WellFormed (graph w)
+unfolding graph
+well-formed w A =
+    record {
+      free = free w A 1 (omega arith) (omega arith);
+      last = free w A 2 (omega arith) (omega arith);
+      paid = λ v t m n.
+          let r = source-inside w A v t m in
+          let k : v ≢ 2
+          = λ e. List·Memᴰ·not-nil {a = t} (subst (List·Memᴰ t) (ap (successors (header w) w) e ∙ no-successor w A) m) in
+          paid w A v (omega (arith, r)) (r .1);
+      above = λ v t m. target-inside w A v t m .0;
+      closed = no-successor w A;
+    }
+
+-- its edges lead to its blocks
+pub inside : (w : List ℕ) → Accepted w → (v t : ℕ) → List·Memᴰ t (graph w .next v) → t ≤ header w .blocks
+unfolding graph
+inside w A v t m = target-inside w A v t m .1

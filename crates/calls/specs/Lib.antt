@@ -1,0 +1,15 @@
+-- What each call answers and leaves: the join of the theory and the formats.
+-- the graph of a sheet, its copies, its bounded sheet
+pub mod SheetGraph
+-- the work area's bytes
+pub mod Area
+-- 21, 9, 10, 22, and what a build leaves
+pub mod Build
+-- 33, 32, 31, and what the moves leave
+pub mod Moves
+-- the listing program's output
+pub mod Program
+-- demand 2
+pub mod Construction
+-- demand 3
+pub mod Demand

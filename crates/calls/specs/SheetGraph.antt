@@ -1,0 +1,33 @@
+-- THE JOIN of formats and theory: the graph that a graph sheet gives, its copies and its bounded sheet, and the graph that a bounded sheet gives.
+-- Rests on theory Completions, Copies and Walks, formats GraphSheet and BoundedSheet.
+use mathlib.Core.List.{List, [], _∷_, map}
+use Prim.Native.Nat.{ℕ}
+use Rattle.base.specs.Copy.{Copy}
+use Rattle.theory.specs.Completions.{Graph}
+use Rattle.theory.specs.Copies.{targets, targetNumber, startCopies, copiesFrom}
+use Rattle.theory.specs.Walks.{Bounded}
+use Rattle.formats.specs.GraphSheet.{header, costWord, successors}
+use Rattle.formats.specs.BoundedSheet.{Row, sheetWords, heading, blockAt, targetsAt}
+
+-- the graph of a graph sheet
+unfoldable pub graph : List ℕ → Graph
+graph w = record { cost = costWord (header w) w; next = successors (header w) w }
+
+-- its copies: those that are reached from the start copy of its budget
+unfoldable pub sheetCopies : List ℕ → List Copy
+sheetCopies w = let b = header w .budget in copiesFrom (graph w) (header w .blocks) b (startCopies (graph w) (b ∷ []))
+
+-- the row of a copy among the copies
+unfoldable pub rowOf : Graph → List Copy → Copy → Row
+rowOf g cs c = record { copy = c; targetWords = map (targetNumber cs) (targets g c) }
+
+unfoldable pub rowsOf : Graph → List Copy → List Row
+rowsOf g cs = map (rowOf g cs) cs
+
+-- the bounded sheet of a graph sheet
+unfoldable pub boundedSheet : List ℕ → List ℕ
+boundedSheet w = sheetWords (header w .budget) (rowsOf (graph w) (sheetCopies w))
+
+-- the bounded graph of a bounded sheet, with the exit's place
+unfoldable pub readBounded : List ℕ → Bounded
+readBounded s = record { size = heading s .copies; block = blockAt (heading s) s; next = targetsAt (heading s) s; last = 2 }

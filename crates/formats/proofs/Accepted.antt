@@ -1,0 +1,172 @@
+-- What the conditions 1 to 8 give of a graph sheet that is answered 0: one law for each fact.
+-- Rests on base Truth, Lists, Orders and Pigeonhole, Chains.
+use mathlib.Core.Path.{_≡_, refl, sym, ap, subst, _∙_}
+use mathlib.Core.Bool.{Bool, true, false, not}
+use mathlib.Core.List.{List, [], map, List·Memᴰ, List·Memᴰ·not-nil, Memᴰ·of-map}
+use Prim.Native.Nat.{ℕ, suc, _+_, _≤_}
+use native.Mathlib.Omega.{arith}
+use borrow.Author.Tests.{ltb-true, ltb-false, eqb-true, not-false, lt-ltb, le-ltb}
+use lib.Dec.{ltb}
+use lib.ListN.{length, length-map}
+use Rattle.base.specs.Lists.{any, all, from, distinct}
+use Rattle.base.specs.Checks.{refused, outside}
+use Rattle.base.proofs.Truth.{or-false, all-e, any-false}
+use Rattle.base.proofs.Lists.{from-i, each-i, Distinct, distinct-part}
+use Rattle.base.proofs.Orders.{Numbered, unrefused, inside-of, not-outside}
+use Rattle.base.proofs.Pigeonhole.{distinct-e, pigeonhole}
+use Rattle.formats.specs.Words.{follow, unsound}
+use Rattle.formats.specs.Limits.{leastBlocks, mostBlocks, leastEdges, mostEdges, mostBudget}
+use Rattle.formats.specs.GraphSheet.{Header, header, sheetLength, costWord, firstWord, targetWord, nextWord, chain, met, successors}
+use Rattle.formats.specs.GraphSheet.{short, badCounts, badLength, badBudget, costFits, badCosts, badTargets, badChains, exitChain}
+use Rattle.formats.specs.GraphSheet.{sheetOrder, sheetRefusal, successorCount}
+use Rattle.formats.proofs.Chains.{follow-above, chain-length-is, follow-ends}
+
+-- no condition holds
+pub record Accepted (w : List ℕ) : Type 0 where
+  pub not-short : short w ≡ false
+  pub counts : badCounts w ≡ false
+  pub size : badLength w ≡ false
+  pub budget : badBudget w ≡ false
+  pub costs : badCosts w ≡ false
+  pub targets : badTargets w ≡ false
+  pub chains : badChains w ≡ false
+  pub exit : exitChain w ≡ false
+
+pub accepted : (w : List ℕ) → sheetRefusal w ≡ 0 → Accepted w
+unfolding sheetRefusal sheetOrder
+accepted w e =
+    let a₁ = unrefused 0 short _ w e in
+    let a₂ = unrefused 1 badCounts _ w (a₁ .1) in
+    let a₃ = unrefused 2 badLength _ w (a₂ .1) in
+    let a₄ = unrefused 3 badBudget _ w (a₃ .1) in
+    let a₅ = unrefused 4 badCosts _ w (a₄ .1) in
+    let a₆ = unrefused 5 badTargets _ w (a₅ .1) in
+    let a₇ = unrefused 6 badChains _ w (a₆ .1) in
+    let a₈ = unrefused 7 exitChain _ w (a₇ .1) in
+    record {
+      not-short = a₁ .0;
+      counts = a₂ .0;
+      size = a₃ .0;
+      budget = a₄ .0;
+      costs = a₅ .0;
+      targets = a₆ .0;
+      chains = a₇ .0;
+      exit = a₈ .0;
+    }
+
+module _ (w : List ℕ) (A : Accepted w) where
+  abbrev h : Header
+  h = header w
+
+  -- 1 to 4
+  pub long : 3 ≤ length w
+  unfolding short header
+  long = ltb-false (length w) 3 (A .not-short)
+
+  pub blocks : (leastBlocks ≤ h .blocks) × (h .blocks ≤ mostBlocks)
+  unfolding badCounts
+  blocks = inside-of leastBlocks mostBlocks (h .blocks) (or-false _ _ (A .counts) .0)
+
+  pub edges : (leastEdges ≤ h .edges) × (h .edges ≤ mostEdges)
+  unfolding badCounts
+  edges = inside-of leastEdges mostEdges (h .edges) (or-false (outside leastBlocks mostBlocks (h .blocks)) _ (A .counts) .1)
+
+  pub size : length w ≡ sheetLength h
+  unfolding badLength
+  size = eqb-true (length w) (sheetLength h) (not-false _ (A .size))
+
+  pub budget-fits : h .budget ≤ mostBudget
+  unfolding badBudget
+  budget-fits = ltb-false mostBudget (h .budget) (A .budget)
+
+  -- 5
+  cost-fits : (v : ℕ) → 1 ≤ v → v ≤ h .blocks → costFits v (costWord h w v) ≡ true
+  unfolding badCosts
+  cost-fits v p q =
+      all-e (λ v. costFits v (costWord h w v)) (from 1 (h .blocks)) (not-false _ (A .costs)) (from-i (h .blocks) 1 v p (omega arith))
+
+  pub free : (v : ℕ) → 1 ≤ v → v ≤ 2 → costWord h w v ≡ 0
+  unfolding costFits
+  free v p q =
+      let s : ltb v 3 ≡ true = below in eqb-true _ 0 (rw (s, costFits) at (cost-fits v p (omega (arith, blocks))))
+    where
+      below : ltb v 3 ≡ true
+      below = lt-ltb v 3 (omega arith)
+
+  pub paid : (v : ℕ) → 3 ≤ v → v ≤ h .blocks → 1 ≤ costWord h w v
+  unfolding costFits
+  paid v p q = ltb-true 0 _ (rw (le-ltb v 3 p, costFits) at (cost-fits v (omega arith) q))
+
+  -- 6
+  target-fits : (e : ℕ) → 1 ≤ e → e ≤ h .edges → (2 ≤ targetWord h w e) × (targetWord h w e ≤ h .blocks)
+  unfolding badTargets
+  target-fits e p q =
+      inside-of 2 (h .blocks) _ (any-false (λ e. outside 2 (h .blocks) (targetWord h w e)) (from 1 (h .edges)) (A .targets)
+      (from-i (h .edges) 1 e p (omega arith)))
+
+  -- 7: an edge of a chain is an edge of the sheet
+  pub edge-inside : (v e : ℕ) → 1 ≤ v → v ≤ h .blocks → List·Memᴰ e (chain h w v) → (1 ≤ e) × (e ≤ h .edges)
+  unfolding badChains unsound met chain
+  edge-inside v e p q m =
+      let n : List·Memᴰ e (met h w) = each-i (chain h w) (from 1 (h .blocks)) (from-i (h .blocks) 1 v p (omega arith)) m in
+      let q = any-false (λ e. ltb (h .edges) e) (met h w) (or-false _ _ (A .chains) .0) n in
+      (follow-above (nextWord h w) (suc (h .edges)) (firstWord h w v) e m, ltb-false (h .edges) e q)
+
+  -- and a chain has at most E edges, so that its fuel of E + 1 never cuts it
+  chain-short : (v : ℕ) → 1 ≤ v → v ≤ h .blocks → length (chain h w v) ≤ h .edges
+  unfolding badChains unsound met
+  chain-short v p q =
+      let r = or-false (any (λ e. ltb (h .edges) e) (met h w)) _ (A .chains) .1 in
+      let t : distinct (met h w) ≡ true = not-false _ (or-false (not (distinct (met h w))) _ r .0) in
+      let d : Distinct (met h w) = distinct-e (met h w) t in
+      pigeonhole (h .edges) (chain h w v) (distinct-part (chain h w) (from 1 (h .blocks)) d (from-i (h .blocks) 1 v p (omega arith)))
+      (λ e m. edge-inside v e p q m)
+
+  pub chain-ends : (v j : ℕ) → 1 ≤ v → v ≤ h .blocks → follow (nextWord h w) (suc (h .edges) + j) (firstWord h w v) ≡ chain h w v
+  unfolding chain
+  chain-ends v j p q = follow-ends (nextWord h w) (suc (h .edges)) j (firstWord h w v) (omega (arith, chain-short v p q))
+
+  -- 8
+  pub exit-ends : firstWord h w 2 ≡ 0
+  unfolding exitChain
+  exit-ends = eqb-true _ 0 (not-false _ (A .exit))
+
+  -- A BLOCK WITH A SUCCESSOR is a block, and the successor the target of an edge
+  edge : (v t : ℕ) → List·Memᴰ t (successors h w v)
+      → (1 ≤ v) × (v ≤ h .blocks) × ((e : ℕ) × List·Memᴰ e (chain h w v) × (targetWord h w e ≡ t))
+  unfolding successors
+  edge v t m = go (outside 1 (h .blocks) v) refl
+    where
+      go : (b : Bool) → outside 1 (h .blocks) v ≡ b
+          → (1 ≤ v) × (v ≤ h .blocks) × ((e : ℕ) × List·Memᴰ e (chain h w v) × (targetWord h w e ≡ t))
+      go true e = absurd (List·Memᴰ·not-nil {a = t} (rw (e, successors) at m))
+      go false e = let p = inside-of 1 (h .blocks) v e in (p .0, p .1, Memᴰ·of-map (targetWord h w) (chain h w v) (rw (e, successors) at m))
+
+  pub source-inside : (v t : ℕ) → List·Memᴰ t (successors h w v) → (1 ≤ v) × (v ≤ h .blocks)
+  source-inside v t m = let r = edge v t m in (r .0, r .1)
+
+  pub target-inside : (v t : ℕ) → List·Memᴰ t (successors h w v) → (2 ≤ t) × (t ≤ h .blocks)
+  target-inside v t m =
+      let r = edge v t m in
+      let i = edge-inside v (r .2 .0) (r .0) (r .1) (r .2 .1) in
+      subst (λ (x : ℕ). (2 ≤ x) × (x ≤ h .blocks)) (r .2 .2) (target-fits (r .2 .0) (i .0) (i .1))
+
+  pub no-successor : successors h w 2 ≡ []
+  unfolding successors chain follow
+  no-successor = go (outside 1 (h .blocks) 2) refl
+    where
+      go : (b : Bool) → outside 1 (h .blocks) 2 ≡ b → successors h w 2 ≡ []
+      go true e = rw (e, successors)
+      go false e = rw (e, successors) (ap (λ (x : ℕ). map (targetWord h w) (follow (nextWord h w) (suc (h .edges)) x)) exit-ends)
+
+  -- counting down a block's chain gives the number of its successors
+  pub successors-counted : (v : ℕ) → 1 ≤ v → v ≤ h .blocks → successorCount h w v ≡ length (successors h w v)
+  unfolding successorCount successors chain
+  successors-counted v p q =
+      rw (not-outside 1 (h .blocks) v p q, successors)
+      (chain-length-is (nextWord h w) (suc (h .edges)) (firstWord h w v) ∙ sym (length-map (chain h w v) (targetWord h w)))
+
+-- no condition is numbered 0
+pub graph-numbered : Numbered sheetOrder
+unfolding all sheetOrder
+graph-numbered = refl

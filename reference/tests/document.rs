@@ -1,0 +1,636 @@
+// Every example of document 01 as a test, its orders of refusals, and its claims on random sheets.
+// It rests on the library's public functions and on paths enumerated one by one, nothing cleverer.
+
+use reference::random::{self, Random, Size};
+use reference::*;
+
+const AREA: usize = 128 * 501;
+const OUTPUT: usize = 3 + 3 * 4096 + 2 * 8192;
+
+fn bytes(words: &[u16]) -> Vec<u8> {
+    words.iter().flat_map(|word| word.to_le_bytes()).collect()
+}
+
+fn list(words: &[u16]) -> String {
+    listing(&bytes(words))
+}
+
+fn heading(words: &[u16]) -> String {
+    list(words).lines().next().unwrap_or("").to_string()
+}
+
+fn sheet_of(words: &[u16]) -> Vec<u16> {
+    let built = build(words, &vec![7; AREA], &vec![9; OUTPUT]);
+    assert_eq!(built.answer, 0);
+    let needed = 3 + 3 * built.output[0] as usize + 2 * built.output[1] as usize;
+    assert!(built.output[needed..].iter().all(|word| *word == 9));
+    built.output[..needed].to_vec()
+}
+
+fn going(place: u32, count: u32) -> Walk {
+    Walk { place, count, end: End::Going }
+}
+
+// The worked example.
+
+#[test]
+fn paper_example_is_the_sheet_described() {
+    let words = paper_example(9);
+    assert_eq!(
+        words,
+        [
+            8, 9, 9, // header
+            0, 1, 0, 0, 2, 2, 1, 4, 4, 5, 1, 6, 1, 8, 5, 9, // blocks
+            3, 0, 4, 3, 5, 0, 6, 0, 6, 0, 7, 7, 8, 0, 2, 0, 2, 0, // edges
+        ]
+    );
+    assert_eq!(check_graph(&words), 0);
+}
+
+#[test]
+fn paper_example_completions_of_block_3() {
+    let table = completion_table(&paper_example(20));
+    let costs: Vec<usize> = (0..=20).filter(|cost| table[2 * 21 + cost] == 1).collect();
+    assert_eq!(costs, [5, 8, 9, 12]);
+}
+
+#[test]
+fn paper_example_whole_listing() {
+    let expected = "copies 9 edges 11 budget 9\n\
+        1 1 9 3\n2 2 0\n3 3 9 4 5\n4 4 7 7\n5 5 6 6\n6 6 2 8 0\n7 6 6 8 9\n8 7 1 2\n9 8 5 2\n";
+    assert_eq!(list(&paper_example(9)), expected);
+    assert_eq!(
+        list(&paper_example(11)),
+        expected.replace("budget 9", "budget 11"),
+    );
+}
+
+#[test]
+fn paper_example_other_budgets() {
+    assert_eq!(list(&paper_example(4)), "refused 9\n");
+    assert_eq!(heading(&paper_example(5)), "copies 6 edges 7 budget 5");
+    assert_eq!(heading(&paper_example(7)), "copies 6 edges 7 budget 7");
+    assert_eq!(heading(&paper_example(8)), "copies 7 edges 8 budget 8");
+    assert_eq!(heading(&paper_example(12)), "copies 8 edges 9 budget 12");
+    let (words, mut targets) = (sheet_of(&paper_example(12)), Vec::new());
+    for copy in 1..=8 {
+        let (answer, part) = edge_words(&words, copy);
+        assert_eq!(answer, 0);
+        targets.extend(part.chunks(2).map(|record| record[0]));
+    }
+    assert_eq!(targets.len(), 9);
+    assert!(targets.iter().all(|target| *target != 0));
+}
+
+#[test]
+fn smallest_sheet() {
+    let words = [2, 1, 0, 0, 1, 0, 0, 2, 0];
+    assert_eq!(sheet_of(&words), [2, 1, 0, 1, 0, 1, 2, 0, 0, 2, 0]);
+}
+
+#[test]
+fn self_loop() {
+    let graph = |budget| graph_sheet(&[0, 0, 3], &[vec![3], vec![], vec![3, 2]], budget);
+    let words = sheet_of(&graph(7));
+    assert_eq!(words[..3], [4, 5, 7]);
+    let copies: Vec<(u16, u16)> = words[3..15].chunks(3).map(|copy| (copy[0], copy[1])).collect();
+    assert_eq!(copies, [(1, 6), (2, 0), (3, 3), (3, 6)]);
+    assert_eq!(sheet_of(&graph(9))[0], 5);
+}
+
+#[test]
+fn two_edges_to_the_same_target() {
+    let words = sheet_of(&graph_sheet(&[0, 0, 1], &[vec![3], vec![], vec![2, 2]], 1));
+    assert_eq!(edge_words(&words, 3), (0, vec![2, 3, 2, 0]));
+    assert_eq!(list(&graph_sheet(&[0, 0, 1], &[vec![3], vec![], vec![2, 2]], 1)),
+        "copies 3 edges 3 budget 1\n1 1 1 3\n2 2 0\n3 3 1 2 2\n");
+}
+
+#[test]
+fn refusals_of_the_example_list() {
+    assert_eq!(check_graph(&paper_example(500)), 0);
+    assert_eq!(check_graph(&paper_example(501)), 4);
+    let many = |blocks: usize| {
+        let mut costs = vec![1; blocks];
+        costs[0] = 0;
+        costs[1] = 0;
+        let mut successors = vec![vec![]; blocks];
+        successors[0] = vec![2];
+        graph_sheet(&costs, &successors, 5)
+    };
+    assert_eq!(check_graph(&many(128)), 0);
+    assert_eq!(check_graph(&many(129)), 2);
+    assert_eq!(check_graph(&[2, 1, 0, 0, 1, 0, 0, 2, 1]), 7);
+}
+
+// Each refusal, and their orders.
+
+#[test]
+fn refusals_1_to_8_in_order() {
+    assert_eq!(check_graph(&[]), 1);
+    assert_eq!(check_graph(&[0, 0]), 1);
+    assert_eq!(check_graph(&[1, 1, 501]), 2);
+    assert_eq!(check_graph(&[2, 0, 501]), 2);
+    assert_eq!(check_graph(&[2, 513, 501]), 2);
+    assert_eq!(check_graph(&[2, 1, 501]), 3);
+    assert_eq!(check_graph(&[2, 1, 0, 0, 1, 0, 0, 2, 0, 0]), 3);
+    assert_eq!(check_graph(&[2, 1, 501, 1, 9, 0, 0, 0, 0]), 4);
+    // 5 before 6 before 7 before 8.
+    assert_eq!(check_graph(&[2, 1, 0, 1, 9, 0, 1, 1, 0]), 5);
+    assert_eq!(check_graph(&[2, 1, 0, 0, 9, 1, 1, 1, 0]), 5);
+    assert_eq!(check_graph(&[3, 1, 0, 0, 1, 0, 0, 0, 0, 2, 0]), 5);
+    assert_eq!(check_graph(&[2, 1, 0, 0, 9, 0, 1, 0, 0]), 6);
+    assert_eq!(check_graph(&[2, 1, 0, 0, 9, 0, 1, 1, 0]), 6);
+    assert_eq!(check_graph(&[2, 1, 0, 0, 9, 0, 1, 3, 0]), 6);
+    // A target is looked at in a chain or not.
+    assert_eq!(check_graph(&[2, 2, 0, 0, 1, 0, 0, 2, 0, 1, 0]), 6);
+    // Above E, twice, missed.
+    assert_eq!(check_graph(&[2, 1, 0, 0, 2, 0, 0, 2, 0]), 7);
+    assert_eq!(check_graph(&[2, 1, 0, 0, 1, 0, 0, 2, 2]), 7);
+    assert_eq!(check_graph(&[2, 1, 0, 0, 1, 0, 1, 2, 0]), 7);
+    assert_eq!(check_graph(&[2, 1, 0, 0, 0, 0, 0, 2, 0]), 7);
+    // The exit's chain: sound is 8, unsound is 7.
+    assert_eq!(check_graph(&[2, 1, 0, 0, 0, 0, 1, 2, 0]), 8);
+    assert_eq!(check_graph(&[2, 1, 0, 0, 1, 0, 2, 2, 0]), 7);
+    // A file with an odd number of bytes.
+    assert_eq!(listing(&[0]), "refused 1\n");
+    let mut file = bytes(&paper_example(9));
+    file.push(0);
+    assert_eq!(listing(&file), "refused 1\n");
+    assert_eq!(listing(&[]), "refused 1\n");
+    assert_eq!(listing(&[2, 0, 1, 0, 0]), "refused 1\n");
+}
+
+#[test]
+fn number_of_successors() {
+    let words = paper_example(9);
+    let counts: Vec<(u16, u16)> = (0..=9).map(|block| successor_count(&words, block)).collect();
+    let expected = [
+        (33, 0), (0, 1), (0, 0), (0, 2), (0, 1), (0, 1), (0, 2), (0, 1), (0, 1), (33, 0),
+    ];
+    assert_eq!(counts, expected);
+    assert_eq!(successor_count(&[2], 7), (1, 0));
+}
+
+#[test]
+fn build_answers_in_order_with_what_they_leave() {
+    let words = paper_example(9);
+    let table = completion_table(&words);
+    assert_eq!(table.len(), 80);
+    let needed = 3 + 3 * 9 + 2 * 11;
+
+    let refused = build(&words[..36], &[7; 3], &[9; 2]);
+    assert_eq!(refused, Built { answer: 3, area: vec![7; 3], output: vec![9; 2] });
+
+    let short = build(&paper_example(4), &[7; 39], &[9; 2]);
+    assert_eq!(short, Built { answer: 21, area: vec![7; 39], output: vec![9; 2] });
+
+    let unfit = build(&paper_example(4), &[7; 42], &[9; 2]);
+    assert_eq!((unfit.answer, &unfit.output), (9, &vec![9; 2]));
+    assert_eq!(unfit.area[..40], completion_table(&paper_example(4)));
+    assert_eq!(unfit.area[40..], [7, 7]);
+
+    let narrow = build(&words, &[7; 80], &vec![9; needed - 1]);
+    assert_eq!((narrow.answer, narrow.area), (22, table.clone()));
+    assert_eq!(narrow.output, vec![9; needed - 1]);
+
+    let exact = build(&words, &[7; 81], &vec![9; needed + 2]);
+    assert_eq!(exact.answer, 0);
+    assert_eq!((&exact.area[..80], exact.area[80]), (&table[..], 7));
+    assert_eq!(exact.output[..needed], sheet_of(&words));
+    assert_eq!(exact.output[needed..], [9, 9]);
+}
+
+#[test]
+fn limits_of_copies_and_edges() {
+    // A row of 46 blocks, each looping and going on: 4,096 copies, 8,188 edges and the start's.
+    let graph = |start_edges: usize, extra_block: bool| {
+        let blocks = 48 + usize::from(extra_block);
+        let mut costs = vec![1; blocks];
+        costs[0] = 0;
+        costs[1] = 0;
+        let mut successors = vec![vec![3; start_edges], vec![]];
+        for block in 3..=48 {
+            successors.push(vec![block, if block == 48 { 2 } else { block + 1 }]);
+        }
+        if extra_block {
+            successors[0].push(49);
+            successors.push(vec![2]);
+        }
+        graph_sheet(&costs, &successors, 134)
+    };
+    assert_eq!(sheet_of(&graph(1, false))[..3], [4096, 8189, 134]);
+    assert_eq!(sheet_of(&graph(4, false))[..3], [4096, 8192, 134]);
+    assert_eq!(check_bounded(&sheet_of(&graph(4, false))), 0);
+    let answer = |words: &[u16], output: usize| build(words, &vec![7; AREA], &vec![9; output]).answer;
+    assert_eq!(answer(&graph(5, false), OUTPUT), 10);
+    assert_eq!(answer(&graph(1, true), OUTPUT), 10);
+    // 10 before 22, and the area holds the table.
+    assert_eq!(answer(&graph(5, false), 0), 10);
+    assert_eq!(answer(&graph(4, false), 0), 22);
+    let built = build(&graph(5, false), &vec![7; 48 * 135 + 1], &[9]);
+    assert_eq!(built.area[..48 * 135], completion_table(&graph(5, false)));
+    assert_eq!((built.area[48 * 135], built.output), (7, vec![9]));
+}
+
+#[test]
+fn bounded_sheet_rules() {
+    let sound = [2, 1, 0, 1, 0, 1, 2, 0, 0, 2, 0];
+    assert_eq!(check_bounded(&sound), 0);
+    let changed = |index: usize, value: u16| {
+        let mut words = sound.to_vec();
+        words[index] = value;
+        check_bounded(&words)
+    };
+    for length in 0..sound.len() {
+        assert_eq!(check_bounded(&sound[..length]), 11);
+    }
+    assert_eq!(changed(2, 500), 0);
+    assert_eq!(changed(2, 501), 11);
+    assert_eq!(changed(3, 2), 11); // no copy of block 1
+    assert_eq!(changed(4, 1), 11); // low above B
+    assert_eq!(changed(5, 0), 11); // edge not used
+    assert_eq!(changed(6, 3), 11); // no copy of block 2
+    assert_eq!(changed(8, 1), 11); // the exit has a chain
+    assert_eq!(changed(9, 0), 0);
+    assert_eq!(changed(9, 1), 11);
+    assert_eq!(changed(9, 3), 11);
+    assert_eq!(changed(10, 1), 11);
+
+    // Copy 3 has no chain, loops and unreached copies pass, the order is strict.
+    let free = [4, 2, 5, 1, 5, 1, 2, 0, 0, 3, 4, 0, 128, 0, 2, 2, 0, 4, 0];
+    assert_eq!(check_bounded(&free), 0);
+    let mut twice = free;
+    twice[12] = 3;
+    twice[13] = 4;
+    assert_eq!(check_bounded(&twice), 11);
+    twice[13] = 5;
+    assert_eq!(check_bounded(&twice), 0);
+    let mut block_129 = free;
+    block_129[12] = 129;
+    assert_eq!(check_bounded(&block_129), 11);
+    let mut crossed = free;
+    crossed[5] = 2;
+    crossed[14] = 1;
+    assert_eq!(check_bounded(&crossed), 11);
+    let mut second_start = free;
+    second_start[..12].copy_from_slice(&[4, 2, 5, 1, 4, 1, 1, 5, 0, 2, 0, 0]);
+    assert_eq!(check_bounded(&second_start), 11);
+    let mut exit_low = free;
+    exit_low[7] = 1;
+    assert_eq!(check_bounded(&exit_low), 11);
+}
+
+#[test]
+fn edge_words_of_a_copy() {
+    let words = sheet_of(&paper_example(9));
+    assert_eq!(edge_words(&words, 1), (0, vec![3, 0]));
+    assert_eq!(edge_words(&words, 2), (0, vec![]));
+    assert_eq!(edge_words(&words, 6), (0, vec![8, 7, 0, 0]));
+    assert_eq!(edge_words(&words, 0), (33, vec![]));
+    assert_eq!(edge_words(&words, 10), (33, vec![]));
+    assert_eq!(edge_words(&words, u32::MAX), (33, vec![]));
+    assert_eq!(edge_words(&words[1..], 0), (11, vec![]));
+}
+
+#[test]
+fn monitored_moves_in_order() {
+    let words = paper_example(9);
+    let table = completion_table(&words);
+    let go = |walk: Walk, choice: u32| {
+        let (answer, after, area) = monitored_move(&words, &[7; 82], walk, choice);
+        assert_eq!((&area[..80], &area[80..]), (&table[..], &[7, 7][..]));
+        if answer != 0 {
+            assert_eq!(after, walk);
+        }
+        (answer, after)
+    };
+    assert_eq!(monitored_move(&words[..36], &[], going(9, 99), 0), (3, going(9, 99), vec![]));
+    assert_eq!(monitored_move(&words, &[7; 79], going(9, 99), 0), (21, going(9, 99), vec![7; 79]));
+    assert_eq!(monitored_move(&paper_example(4), &[7; 40], going(9, 99), 0).0, 9);
+    assert_eq!(go(going(0, 0), 0).0, 33);
+    assert_eq!(go(going(9, 0), 0).0, 33);
+    assert_eq!(go(going(2, 0), 0).0, 33);
+    assert_eq!(go(going(3, 10), 0).0, 33);
+    assert_eq!(go(Walk { place: 3, count: 2, end: End::Exit }, 0).0, 33);
+    assert_eq!(go(Walk { place: 2, count: 2, end: End::Diverted }, 0).0, 33);
+    assert_eq!(go(Walk { place: 2, count: 10, end: End::Exit }, 0).0, 33);
+    assert_eq!(go(Walk { place: 3, count: 10, end: End::Diverted }, 0).0, 33);
+    assert_eq!(go(Walk { place: 2, count: 9, end: End::Exit }, 0).0, 32);
+    assert_eq!(go(Walk { place: 3, count: 9, end: End::Diverted }, 0).0, 32);
+    assert_eq!(go(Walk::start(), 0).0, 31);
+    assert_eq!(go(Walk::start(), 2).0, 31);
+    assert_eq!(go(Walk::start(), 1), (0, going(3, 2)));
+    assert_eq!(go(going(3, 2), 2), (0, going(5, 6)));
+    assert_eq!(go(going(5, 6), 1), (0, going(6, 7)));
+    assert_eq!(go(going(6, 7), 2), (0, Walk { place: 6, count: 7, end: End::Diverted }));
+    assert_eq!(go(going(6, 7), 1), (0, going(7, 8)));
+    assert_eq!(go(going(7, 8), 1), (0, Walk { place: 2, count: 8, end: End::Exit }));
+    // A path costing exactly the budget is kept.
+    assert_eq!(go(going(6, 4), 2), (0, going(8, 9)));
+    assert_eq!(go(going(6, 5), 2), (0, Walk { place: 6, count: 5, end: End::Diverted }));
+}
+
+#[test]
+fn bounded_moves_in_order() {
+    let words = sheet_of(&paper_example(9));
+    let go = |walk: Walk, choice: u32| bounded_move(&words, walk, choice);
+    assert_eq!(bounded_move(&words[1..], going(0, 99), 0), (11, going(0, 99)));
+    assert_eq!(go(going(0, 0), 0).0, 33);
+    assert_eq!(go(going(10, 0), 0).0, 33);
+    assert_eq!(go(going(2, 0), 0).0, 33);
+    assert_eq!(go(going(1, 10), 0).0, 33);
+    assert_eq!(go(Walk { place: 3, count: 1, end: End::Exit }, 0).0, 33);
+    assert_eq!(go(Walk { place: 2, count: 11, end: End::Exit }, 0).0, 33);
+    assert_eq!(go(Walk { place: 2, count: 10, end: End::Exit }, 0).0, 32);
+    assert_eq!(go(Walk { place: 3, count: 10, end: End::Diverted }, 0).0, 32);
+    assert_eq!(go(Walk::start(), 0).0, 31);
+    assert_eq!(go(Walk::start(), 2).0, 31);
+    assert_eq!(go(Walk::start(), 1), (0, going(3, 1)));
+    assert_eq!(go(going(6, 3), 2), (0, Walk { place: 6, count: 4, end: End::Diverted }));
+    assert_eq!(go(going(8, 9), 1), (0, Walk { place: 2, count: 10, end: End::Exit }));
+    // A going walk with count B whose move does not end counts on; the next move is then 33.
+    assert_eq!(go(going(1, 9), 1), (0, going(3, 10)));
+    assert_eq!(go(going(3, 10), 1).0, 33);
+}
+
+#[test]
+fn plain_monitor() {
+    let words = paper_example(9);
+    assert_eq!(monitor_step(&words, Walk::start(), 1), (0, going(3, 2)));
+    assert_eq!(monitor_step(&words, Walk::start(), 0), (31, Walk::start()));
+    let diverted = Walk { place: 6, count: 7, end: End::Diverted };
+    assert_eq!(monitor_step(&words, going(6, 7), 2), (0, diverted));
+    assert_eq!(monitor_step(&words, diverted, 2), (32, diverted));
+}
+
+// The claims, on random sheets.
+
+/// The targets of a block, read from the words.
+fn targets(words: &[u16], block: u16) -> Vec<u16> {
+    let blocks = words[0] as usize;
+    let mut found = Vec::new();
+    let mut edge = words[3 + 2 * (block as usize - 1) + 1] as usize;
+    while edge != 0 {
+        found.push(words[3 + 2 * blocks + 2 * (edge - 1)]);
+        edge = words[3 + 2 * blocks + 2 * (edge - 1) + 1] as usize;
+    }
+    found
+}
+
+fn cost(words: &[u16], block: u16) -> usize {
+    words[3 + 2 * (block as usize - 1)] as usize
+}
+
+/// Every path from a block to the exit costing at most `left`, as choices with blocks and cost.
+/// Blocks other than 1 and 2 cost at least 1, so there are finitely many.
+fn paths(words: &[u16], block: u16, left: usize) -> Vec<(Vec<u32>, Vec<u16>, usize)> {
+    if cost(words, block) > left {
+        return Vec::new();
+    }
+    if block == 2 {
+        return vec![(vec![], vec![2], 0)];
+    }
+    let mut all = Vec::new();
+    for (index, target) in targets(words, block).iter().enumerate() {
+        for (choices, blocks, rest) in paths(words, *target, left - cost(words, block)) {
+            let choices = [vec![index as u32 + 1], choices].concat();
+            let blocks = [vec![block], blocks].concat();
+            all.push((choices, blocks, cost(words, block) + rest));
+        }
+    }
+    all
+}
+
+/// The number of paths, to keep clear of sheets with too many.
+fn number_of_paths(words: &[u16], block: u16, left: usize) -> usize {
+    if cost(words, block) > left {
+        return 0;
+    }
+    if block == 2 {
+        return 1;
+    }
+    let rest = left - cost(words, block);
+    targets(words, block).iter().map(|target| number_of_paths(words, *target, rest)).sum()
+}
+
+#[test]
+fn tables_and_copies_agree_with_enumerated_paths() {
+    let mut random = Random::new(11);
+    let mut checked = 0;
+    for _ in 0..1500 {
+        let words = random::valid_graph(&mut random, Size::Tiny);
+        assert_eq!(check_graph(&words), 0);
+        let (blocks, budget) = (words[0], words[2] as usize);
+        if (1..=blocks).map(|block| number_of_paths(&words, block, budget)).sum::<usize>() > 3000 {
+            continue;
+        }
+        checked += 1;
+
+        // The table holds the costs of all paths.
+        let mut table = vec![0; blocks as usize * (budget + 1)];
+        for block in 1..=blocks {
+            for (_, _, total) in paths(&words, block, budget) {
+                table[(block as usize - 1) * (budget + 1) + total] = 1;
+            }
+        }
+        assert_eq!(completion_table(&words), table);
+        let largest = |block: u16, left: usize| {
+            let row = &table[(block as usize - 1) * (budget + 1)..][..=left];
+            row.iter().rposition(|byte| *byte == 1)
+        };
+
+        // The copies: added round by round until no round adds one.
+        let built = build(&words, &vec![7; AREA], &vec![9; OUTPUT]);
+        let start = match largest(1, budget) {
+            Some(low) => (1, low),
+            None => {
+                assert_eq!(built.answer, 9);
+                continue;
+            }
+        };
+        let mut copies = vec![start];
+        loop {
+            let mut more = Vec::new();
+            for (block, low) in &copies {
+                for target in targets(&words, *block) {
+                    if let Some(next) = largest(target, low - cost(&words, *block)) {
+                        if !copies.contains(&(target, next)) && !more.contains(&(target, next)) {
+                            more.push((target, next));
+                        }
+                    }
+                }
+            }
+            if more.is_empty() {
+                break;
+            }
+            copies.extend(more);
+        }
+        copies.sort();
+
+        assert_eq!(built.answer, 0);
+        let sheet = &built.output;
+        assert_eq!(sheet[0] as usize, copies.len());
+        for (index, (block, low)) in copies.iter().enumerate() {
+            assert_eq!(sheet[3 + 3 * index..][..2], [*block, *low as u16]);
+            let expected: Vec<u16> = targets(&words, *block)
+                .iter()
+                .map(|target| match largest(*target, low - cost(&words, *block)) {
+                    Some(next) => {
+                        1 + copies.iter().position(|copy| *copy == (*target, next)).unwrap() as u16
+                    }
+                    None => 0,
+                })
+                .collect();
+            let needed = 3 + 3 * sheet[0] as usize + 2 * sheet[1] as usize;
+            let (answer, part) = edge_words(&sheet[..needed], index as u32 + 1);
+            assert_eq!(answer, 0);
+            let found: Vec<u16> = part.chunks(2).map(|record| record[0]).collect();
+            assert_eq!(found, expected);
+        }
+    }
+    assert!(checked > 1000);
+}
+
+/// The claim on a list of choices: monitor, bounded moves and monitored moves go together.
+fn go_together(words: &[u16], choices: &[u32], random: &mut Random) {
+    let budget = words[2] as u32;
+    let sheet = sheet_of(words);
+    assert_eq!(check_bounded(&sheet), 0);
+    let monitor = Monitor::new(words).ok().unwrap();
+    let area_needed = words[0] as usize * (words[2] as usize + 1);
+    let (mut state, mut bounded, mut monitored) = (Walk::start(), Walk::start(), Walk::start());
+    let mut moves = 0;
+    for choice in choices {
+        let (first, after) = monitor.step(state, *choice);
+        assert_eq!(monitor_step(words, state, *choice), (first, after));
+        state = after;
+        let (second, after) = bounded_move(&sheet, bounded, *choice);
+        bounded = after;
+        let area = vec![random.below(256) as u8; area_needed];
+        let (third, after, _) = monitored_move(words, &area, monitored, *choice);
+        monitored = after;
+        assert_eq!((first, first), (second, third));
+        if first == 0 {
+            moves += 1;
+        }
+    }
+    let shown = sheet[3 + 3 * (bounded.place as usize - 1)] as u32;
+    assert_eq!((state.place, state.place), (shown, monitored.place));
+    assert_eq!((state.end, state.end), (bounded.end, monitored.end));
+    assert_eq!(state.count, monitored.count);
+    assert!(state.count <= budget);
+    assert_eq!(bounded.count, moves);
+    if state.end == End::Going {
+        assert!(bounded.count <= budget);
+        assert!(monitor.successors(state.place) >= 1);
+        assert_eq!(monitor.step(state, 1).0, 0);
+    } else {
+        assert!(bounded.count <= budget + 1);
+    }
+}
+
+#[test]
+fn lists_of_choices() {
+    let mut random = Random::new(5);
+    for (size, rounds) in [(Size::Tiny, 3000), (Size::Small, 1000), (Size::Any, 150)] {
+        for _ in 0..rounds {
+            let words = random::buildable_graph(&mut random, size);
+            let choices = random::choices(&mut random, &words);
+            go_together(&words, &choices, &mut random);
+        }
+    }
+    go_together(&paper_example(9), &[], &mut random);
+}
+
+#[test]
+fn paths_run_unchanged_exactly_within_the_budget() {
+    let mut random = Random::new(23);
+    let mut kept = 0;
+    let mut stopped = 0;
+    for _ in 0..800 {
+        let words = random::buildable_graph(&mut random, Size::Tiny);
+        let budget = words[2] as usize;
+        if number_of_paths(&words, 1, budget + 3) > 500 {
+            continue;
+        }
+        let sheet = sheet_of(&words);
+        for (choices, blocks, total) in paths(&words, 1, budget + 3) {
+            let mut walk = Walk::start();
+            let mut shown = vec![1];
+            let mut unchanged = true;
+            for choice in &choices {
+                let (answer, after) = bounded_move(&sheet, walk, *choice);
+                unchanged &= answer == 0;
+                walk = after;
+                shown.push(sheet[3 + 3 * (walk.place as usize - 1)]);
+            }
+            unchanged &= shown == blocks && walk.end == End::Exit;
+            assert_eq!(unchanged, total <= budget);
+            if unchanged {
+                kept += 1;
+            } else {
+                stopped += 1;
+            }
+        }
+    }
+    assert!(kept > 500 && stopped > 500);
+}
+
+#[test]
+fn tiny_material_is_tiny() {
+    let mut random = Random::new(3);
+    for _ in 0..3000 {
+        let words = random::valid_graph(&mut random, Size::Tiny);
+        assert_eq!(check_graph(&words), 0);
+        assert!(words[0] <= 5 && words[1] <= 8 && words[2] <= 8);
+        let words = random::damaged_graph(&mut random, Size::Tiny);
+        let within = words.len() >= 3 && words[0] <= 5 && words[1] <= 8 && words[2] <= 8;
+        assert!(within || (1..=4).contains(&check_graph(&words)));
+        assert_eq!(check_bounded(&random::sound_bounded_sheet(&mut random, Size::Tiny)), 0);
+        let words = random::damaged_bounded_sheet(&mut random, Size::Tiny);
+        assert!(check_bounded(&words) == 11 || words[2] <= 8);
+    }
+}
+
+#[test]
+fn nothing_panics_and_refusals_keep_what_is_lent() {
+    let mut random = Random::new(77);
+    for round in 0..3000 {
+        let size = if round % 10 == 0 { Size::Any } else { Size::Tiny };
+        let words = match random.below(4) {
+            0 => (0..random.below(30)).map(|_| random.below(12) as u16).collect(),
+            1 => random::sound_bounded_sheet(&mut random, size),
+            2 => random::damaged_bounded_sheet(&mut random, size),
+            _ => random::damaged_graph(&mut random, size),
+        };
+        let area = vec![7; random.below(60)];
+        let output = vec![9; random.below(60)];
+        let answer = check_graph(&words);
+        let built = build(&words, &area, &output);
+        if built.answer != 0 {
+            assert_eq!(built.output, output);
+        }
+        if answer != 0 {
+            assert_eq!(built.answer, answer);
+            assert_eq!(completion_table(&words), []);
+        }
+        if answer != 0 || built.answer == 21 {
+            assert_eq!(built.area, area);
+        }
+        let walk = random::graph_walk(&mut random, &words);
+        let (answer, after, _) = monitored_move(&words, &area, walk, random.below(4) as u32);
+        if answer != 0 {
+            assert_eq!(after, walk);
+        }
+        let walk = random::bounded_walk(&mut random, &words);
+        let (answer, after) = bounded_move(&words, walk, random.below(4) as u32);
+        if answer != 0 {
+            assert_eq!(after, walk);
+        }
+        monitor_step(&words, walk, random.below(4) as u32);
+        successor_count(&words, random.below(140) as u16);
+        edge_words(&words, random.below(30) as u32);
+        listing(&bytes(&words));
+    }
+}
