@@ -1,4 +1,4 @@
-// The command line tool: `reference listing < sheet` and `reference cases SEED COUNT SIZE`.
+// The command line tool: `reference listing < sheet`, `reference build < decimal words` and `reference cases SEED COUNT SIZE`.
 // It rests on the library and its random material; it prints what the library answers.
 
 use reference::random::{self, Random, Size};
@@ -9,13 +9,14 @@ use reference::{
 use std::io::{self, BufWriter, Read, Write};
 use std::process::ExitCode;
 
-const USAGE: &str = "usage: reference listing < sheet\n       reference cases SEED COUNT tiny|small|any";
+const USAGE: &str = "usage: reference listing < sheet\n       reference build < decimal words\n       reference cases SEED COUNT tiny|small|any";
 
 fn main() -> ExitCode {
     let arguments: Vec<String> = std::env::args().skip(1).collect();
     let arguments: Vec<&str> = arguments.iter().map(String::as_str).collect();
     let done = match arguments[..] {
         ["listing"] => print_listing(),
+        ["build"] => print_build(),
         ["cases", seed, count, size] => match (seed.parse(), count.parse(), size_named(size)) {
             (Ok(seed), Ok(count), Some(size)) => print_cases(seed, count, size),
             _ => return usage(),
@@ -50,6 +51,20 @@ fn print_listing() -> io::Result<()> {
     let mut bytes = Vec::new();
     io::stdin().lock().read_to_end(&mut bytes)?;
     io::stdout().lock().write_all(listing(&bytes).as_bytes())
+}
+
+/// A build with buffers that are long enough: the answer, and the words that it fills.
+fn print_build() -> io::Result<()> {
+    let mut text = String::new();
+    io::stdin().lock().read_to_string(&mut text)?;
+    let words: Vec<u16> = text.split_whitespace().filter_map(|word| word.parse().ok()).collect();
+    let built = build(&words, &[0; 128 * 501], &[0; 3 + 3 * 4096 + 2 * 8192]);
+    let filled = match built.answer {
+        0 => 3 + 3 * usize::from(built.output[0]) + 2 * usize::from(built.output[1]),
+        _ => 0,
+    };
+    println!("{}\t{}", built.answer, row(&built.output[..filled]));
+    Ok(())
 }
 
 fn print_cases(seed: u64, count: usize, size: Size) -> io::Result<()> {

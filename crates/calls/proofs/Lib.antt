@@ -12,3 +12,5 @@ pub mod Moves
 pub mod Demand
 -- the work area's cells and the output row after a call: cell-filled, rest-untouched, output-words
 pub mod Area
+-- the starred examples and the refusals, row by row: starred, pinned
+pub mod Rows

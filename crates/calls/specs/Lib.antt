@@ -13,3 +13,7 @@ pub mod Program
 pub mod Construction
 -- demand 3
 pub mod Demand
+-- cases of every call, as rows of numbers
+pub mod Cases
+pub mod Examples
+pub mod Refusals

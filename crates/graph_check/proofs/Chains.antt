@@ -8,25 +8,26 @@ use lib.ListN.{length}
 use Rattle.formats.specs.Words.{follow, chainLength}
 use Rattle.formats.proofs.Chains.{chain-length-is}
 
-module _ (next : ℕ → ℕ) (k e : ℕ) where
-  pub follow-end : e ≡ 0 → follow next k e ≡ []
+module _ (next : ℕ → ℕ) where
+  pub follow-end : (k e : ℕ) → e ≡ 0 → follow next k e ≡ []
   unfolding follow
-  follow-end z = ends k e z
-    where
-      ends : (k e : ℕ) → e ≡ 0 → follow next k e ≡ []
-      ends zero e z = refl
-      ends (suc k) zero z = refl
-      ends (suc k) (suc e) z = absurd (omega arith)
+  follow-end zero e z = refl
+  follow-end (suc k) e z = ap (follow next (suc k)) z
 
-  pub follow-out : k ≡ 0 → follow next k e ≡ []
+  pub follow-out : (k e : ℕ) → k ≡ 0 → follow next k e ≡ []
   unfolding follow
-  follow-out z = ap (λ (n : ℕ). follow next n e) z
+  follow-out k e z = ap (λ (n : ℕ). follow next n e) z
 
-  pub follow-more : 0 < k → (e ≡ 0 → ⊥) → follow next k e ≡ e ∷ follow next (k - 1) (next e)
+  pub follow-more : (k e : ℕ) → 0 < k → (e ≡ 0 → ⊥) → follow next k e ≡ e ∷ follow next (k - 1) (next e)
   unfolding follow
-  follow-more p n = more k e p n
-    where
-      more : (k e : ℕ) → 0 < k → (e ≡ 0 → ⊥) → follow next k e ≡ e ∷ follow next (k - 1) (next e)
-      more zero e p n = absurd (let q : zero < zero = p in omega arith)
-      more (suc k) zero p n = absurd (n refl)
-      more (suc k) (suc e) p n = let q : suc k - 1 ≡ k = omega arith in rw q
+  follow-more zero e p n = absurd (let q : zero < zero = p in omega arith)
+  follow-more (suc k) zero p n = absurd (n refl)
+  follow-more (suc k) (suc e) p n = let q : suc k - 1 ≡ k = omega arith in rw q
+
+  -- the length, by the list
+  pub length-end : (k e : ℕ) → follow next k e ≡ [] → chainLength next k e ≡ 0
+  length-end k e q = chain-length-is next k e ∙ ap length q
+
+  pub length-more : (k e : ℕ) → 0 < k → (e ≡ 0 → ⊥) → chainLength next k e ≡ suc (chainLength next (k - 1) (next e))
+  length-more k e p n =
+      chain-length-is next k e ∙ ap length (follow-more k e p n) ∙ ap suc (sym (chain-length-is next (k - 1) (next e)))

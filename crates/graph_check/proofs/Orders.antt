@@ -15,13 +15,13 @@ use Rattle.base.proofs.Orders.{Numbered}
 abbrev pub pick : Bool → ℕ → ℕ → ℕ
 pick b k x = elim b [ true ↦ k | false ↦ x ]
 
--- one condition is tested: it gives its number, or the rest decides
-pub tested : {I : Type 0} {k : ℕ} {f : I → Bool} {rs : Order I} {i : I} {b : Bool} {x : ℕ} → f i ≡ b → refused rs i ≡ x
-    → refused ((k, f) ∷ rs) i ≡ pick b k x
-unfolding refused
-tested {k = k} {b = b} e r = rw (e, refused) (ap (pick b k) r)
-
 module _ {I : Type 0} where
+  -- one condition is tested: it gives its number, or the rest decides
+  pub tested : (k : ℕ) (f : I → Bool) (rs : Order I) (i : I) {b : Bool} {x : ℕ} → f i ≡ b → refused rs i ≡ x
+      → refused ((k, f) ∷ rs) i ≡ pick b k x
+  unfolding refused
+  tested k f rs i {b} e r = rw (e, refused) (ap (pick b k) r)
+
   -- an order behind another: the first refuses
   pub append-stops : (xs ys : Order I) (i : I) → (refused xs i ≡ 0 → ⊥) → refused (xs ++ ys) i ≡ refused xs i
   unfolding refused

@@ -23,7 +23,6 @@ unsoundFrom m seen [] = missed m seen
 unsoundFrom m seen (e ∷ es) = ltb m e || (marked seen e || unsoundFrom m (set seen e 1) es)
 
 -- following the chain from e on, whatever edges follow it: it goes well and leaves the marks seen′, or it is unsound
-unfoldable pub Marking : List ℕ → ℕ → List ℕ → List ℕ → Bool → Type 0
-Marking w e seen seen′ well =
-    (es : List ℕ) → unsoundFrom (header w .edges) seen (edgesFrom w (suc (header w .edges)) e ++ es)
-        ≡ (not well || unsoundFrom (header w .edges) seen′ es)
+pub record Marking (w : List ℕ) (e : ℕ) (seen seen′ : List ℕ) (well : Bool) : Type 0 where
+  pub then : (es : List ℕ) → unsoundFrom (header w .edges) seen (edgesFrom w (suc (header w .edges)) e ++ es)
+      ≡ (not well || unsoundFrom (header w .edges) seen′ es)

@@ -1,0 +1,91 @@
+-- THE STARRED EXAMPLES and the refusals: every row of the two lists comes out as it says, by computing the definitions.
+-- Rests on specs Examples and Refusals.
+use mathlib.Core.Path.{_≡_, refl}
+use mathlib.Core.Bool.{true, false}
+use mathlib.Core.List.{List, [], _∷_, _++_, map}
+use Prim.Native.Nat.{ℕ}
+use lib.ListN.{replicate}
+use Rattle.base.specs.Lists.{any, all, keep, each, chosen, isNone, from, member, distinct, equal}
+use Rattle.base.specs.Copy.{same, before, isIn, numberFrom}
+use Rattle.base.specs.Checks.{Order, refused, over, outside}
+use Rattle.theory.specs.Completions.{within, completes, largest, lowOf}
+use Rattle.theory.specs.Copies.{copyFor, targets, add, join, spread, candidates, startCopies, copiesFrom, targetNumber}
+use Rattle.theory.specs.Machines.{taken, replyAt, reply, answers, final}
+use Rattle.theory.specs.Walks.{startAt, endAt, mostMoves, isExit, monitorTake, monitor, boundedTake, boundedWalk}
+use Rattle.formats.specs.Words.{follow, chainLength, unsound}
+use Rattle.formats.specs.GraphSheet.{header, costWord, firstWord, targetWord, nextWord, chain, met, successors, successorCount}
+use Rattle.formats.specs.GraphSheet.{short, badCounts, badLength, badBudget, costFits, badCosts, badTargets, badChains, exitChain}
+use Rattle.formats.specs.GraphSheet.{sheetOrder, sheetRefusal, countOrder, countSuccessors}
+use Rattle.formats.specs.BoundedSheet.{firstEdge, edgeRecords, copyWords, edgeWords, edgeCount, sheetWords}
+use Rattle.formats.specs.BoundedSheet.{heading, blockAt, lowAt, firstAt, targetAt, nextAt, copyAt, chainAt, targetsAt, edgePart}
+use Rattle.formats.specs.Rule11.{tooShort, badLimits, wrongLength, largeBudget, badBlocks, badLows, badCopyOrder, copiesOf, notOneOf}
+use Rattle.formats.specs.Rule11.{badExit, badEdgeOrder, badTargetWords, boundedOrder, boundedRefusal, partOrder, handOut}
+use Rattle.formats.specs.File.{wordOf, wordsOf, oddBytes}
+use Rattle.formats.specs.Listing.{digits, decimal, line, headingLine, copyLine, listingOf, refusalOf}
+use Rattle.calls.specs.SheetGraph.{graph, sheetCopies, rowOf, rowsOf, boundedSheet, readBounded}
+use Rattle.calls.specs.Area.{marks, byteOf, bytes, areaSize, filled}
+use Rattle.calls.specs.Build.{smallArea, nothingFits, tooMany, smallOutput, buildOrder, beforeWeighing, areaAfter, outputAfter, build}
+use Rattle.calls.specs.Moves.{outOfShape, unless, monitoredOrder, monitoredReply, monitoredMove, boundedMoveOrder, boundedMove}
+use Rattle.calls.specs.Program.{fileOrder, listing}
+use Rattle.calls.specs.Cases.{Case, endNumber, sheetShown, outcome}
+use Rattle.calls.specs.Examples.{paper, loop, twice, least, inBytes, examples}
+use Rattle.calls.specs.Refusals.{nine, six, refusals}
+
+-- the numbers of an order
+abbrev numbersOf : {I : Type 0} → Order I → List ℕ
+numbersOf rs = map (λ r. r .0) rs
+
+-- every row comes out as it says
+abbrev pub Pinned : List (Case × List ℕ) → Type 0
+Pinned rows = map (λ r. outcome (r .0)) rows ≡ map (λ r. r .1) rows
+
+pub starred : Pinned examples
+unfolding examples paper loop twice least inBytes
+    any all keep each chosen isNone from member distinct equal same before isIn numberFrom refused over outside
+    within completes largest lowOf copyFor targets add join spread candidates startCopies copiesFrom targetNumber
+    follow unsound header costWord firstWord targetWord nextWord chain met successors
+    short badCounts badLength badBudget costFits badCosts badTargets badChains exitChain sheetOrder
+    firstEdge edgeRecords copyWords edgeWords edgeCount sheetWords
+    heading blockAt lowAt firstAt targetAt nextAt copyAt chainAt targetsAt
+    tooShort badLimits wrongLength largeBudget badBlocks badLows badCopyOrder copiesOf notOneOf
+    badExit badEdgeOrder badTargetWords boundedOrder boundedRefusal
+    wordOf wordsOf oddBytes digits decimal line headingLine copyLine listingOf refusalOf
+    graph sheetCopies rowOf rowsOf boundedSheet areaSize
+    smallArea nothingFits tooMany smallOutput buildOrder build fileOrder listing sheetShown outcome
+starred = refl
+
+pub pinned : Pinned refusals
+unfolding refusals nine six paper loop least inBytes
+    any all keep each chosen isNone from member distinct equal same before isIn numberFrom refused over outside
+    within completes largest lowOf copyFor targets add join spread candidates startCopies copiesFrom targetNumber
+    taken replyAt reply answers final startAt endAt mostMoves isExit monitorTake monitor boundedTake boundedWalk
+    follow chainLength unsound header costWord firstWord targetWord nextWord chain met successors successorCount
+    short badCounts badLength badBudget costFits badCosts badTargets badChains exitChain sheetOrder sheetRefusal countOrder countSuccessors
+    firstEdge edgeRecords copyWords edgeWords edgeCount sheetWords
+    heading blockAt lowAt firstAt targetAt nextAt copyAt chainAt targetsAt edgePart
+    tooShort badLimits wrongLength largeBudget badBlocks badLows badCopyOrder copiesOf notOneOf
+    badExit badEdgeOrder badTargetWords boundedOrder boundedRefusal partOrder handOut
+    wordOf wordsOf oddBytes digits decimal line headingLine copyLine listingOf refusalOf
+    graph sheetCopies rowOf rowsOf boundedSheet readBounded marks byteOf bytes areaSize filled
+    smallArea nothingFits tooMany smallOutput buildOrder beforeWeighing areaAfter outputAfter build
+    outOfShape unless monitoredOrder monitoredReply monitoredMove boundedMoveOrder boundedMove fileOrder listing endNumber outcome
+pinned = refl
+
+-- each order's numbers, as document 01 lists them; no sheet small enough to compute passes the limits of 10, so its place and its limits
+-- stand here
+pub orders : numbersOf buildOrder ∷ numbersOf monitoredOrder ∷ numbersOf boundedMoveOrder ∷ numbersOf partOrder ∷ numbersOf countOrder
+    ∷ numbersOf fileOrder ∷ []
+    ≡ (1 ∷ 2 ∷ 3 ∷ 4 ∷ 5 ∷ 6 ∷ 7 ∷ 8 ∷ 21 ∷ 9 ∷ 10 ∷ 22 ∷ [])
+    ∷ (1 ∷ 2 ∷ 3 ∷ 4 ∷ 5 ∷ 6 ∷ 7 ∷ 8 ∷ 21 ∷ 9 ∷ 33 ∷ [])
+    ∷ (replicate 12 11 ++ (33 ∷ []))
+    ∷ (replicate 12 11 ++ (33 ∷ []))
+    ∷ (1 ∷ 2 ∷ 3 ∷ 4 ∷ 5 ∷ 6 ∷ 7 ∷ 8 ∷ 33 ∷ [])
+    ∷ (1 ∷ 1 ∷ 2 ∷ 3 ∷ 4 ∷ 5 ∷ 6 ∷ 7 ∷ 8 ∷ 9 ∷ 10 ∷ [])
+    ∷ []
+unfolding over sheetOrder boundedOrder buildOrder monitoredOrder boundedMoveOrder partOrder countOrder fileOrder
+orders = refl
+
+pub largest-sheets : map (λ (p : ℕ × ℕ). tooMany (record { copies = p .0; edges = p .1; budget = 0; records = 3 }))
+    ((4096, 8192) ∷ (4097, 8192) ∷ (4096, 8193) ∷ []) ≡ false ∷ true ∷ true ∷ []
+unfolding tooMany
+largest-sheets = refl

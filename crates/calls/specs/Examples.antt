@@ -1,0 +1,99 @@
+-- The starred examples of document 01 ("Ribbon example and edges") as rows of one list, each case with what it must come out as.
+-- Rests on base Lists, Cases.
+use mathlib.Core.List.{List, [], _∷_}
+use Prim.Native.Nat.{ℕ, _/_, _%_}
+use Rattle.base.specs.Lists.{each}
+use Rattle.calls.specs.Cases.{Case, sheetOf, listingFor}
+
+-- the document's example: costs 0, 0, 2, 1, 4, 1, 1, 5; successors 1: 3; 3: 4, 5; 4: 6; 5: 6; 6: 7, 8; 7: 2; 8: 2
+unfoldable pub paper : ℕ → List ℕ
+paper b =
+    8 ∷ 9 ∷ b
+    ∷ 0 ∷ 1 ∷ 0 ∷ 0 ∷ 2 ∷ 2 ∷ 1 ∷ 4 ∷ 4 ∷ 5 ∷ 1 ∷ 6 ∷ 1 ∷ 8 ∷ 5 ∷ 9
+    ∷ 3 ∷ 0 ∷ 4 ∷ 3 ∷ 5 ∷ 0 ∷ 6 ∷ 0 ∷ 6 ∷ 0 ∷ 7 ∷ 7 ∷ 8 ∷ 0 ∷ 2 ∷ 0 ∷ 2 ∷ 0 ∷ []
+
+-- block 3, cost 3, to itself and to the exit
+unfoldable pub loop : ℕ → List ℕ
+loop b = 3 ∷ 3 ∷ b ∷ 0 ∷ 1 ∷ 0 ∷ 0 ∷ 3 ∷ 2 ∷ 3 ∷ 0 ∷ 3 ∷ 3 ∷ 2 ∷ 0 ∷ []
+
+-- block 3, cost 1, twice to the exit
+unfoldable pub twice : List ℕ
+twice = 3 ∷ 3 ∷ 1 ∷ 0 ∷ 1 ∷ 0 ∷ 0 ∷ 1 ∷ 2 ∷ 3 ∷ 0 ∷ 2 ∷ 3 ∷ 2 ∷ 0 ∷ []
+
+-- the start, the exit and one edge
+unfoldable pub least : List ℕ
+least = 2 ∷ 1 ∷ 0 ∷ 0 ∷ 1 ∷ 0 ∷ 0 ∷ 2 ∷ 0 ∷ []
+
+-- a file: each word as two bytes, the lower first
+unfoldable pub inBytes : List ℕ → List ℕ
+inBytes w = each (λ x. x % 256 ∷ x / 256 ∷ []) w
+
+-- of an accepted build: 0, rule 11's answer, and the bounded sheet: header, copies, edges
+unfoldable pub examples : List (Case × List ℕ)
+examples =
+    -- * B = 4: refused 9
+    (sheetOf (paper 4), 9 ∷ [])
+    -- * B = 5 or 7: 6 copies, 7 edges
+    ∷ (sheetOf (paper 5),
+        0 ∷ 0 ∷ 6 ∷ 7 ∷ 5
+        ∷ 1 ∷ 5 ∷ 1 ∷ 2 ∷ 0 ∷ 0 ∷ 3 ∷ 5 ∷ 2 ∷ 4 ∷ 3 ∷ 4 ∷ 6 ∷ 2 ∷ 5 ∷ 7 ∷ 1 ∷ 7
+        ∷ 3 ∷ 0 ∷ 4 ∷ 3 ∷ 0 ∷ 0 ∷ 5 ∷ 0 ∷ 6 ∷ 6 ∷ 0 ∷ 0 ∷ 2 ∷ 0 ∷ [])
+    ∷ (sheetOf (paper 7),
+        0 ∷ 0 ∷ 6 ∷ 7 ∷ 7
+        ∷ 1 ∷ 5 ∷ 1 ∷ 2 ∷ 0 ∷ 0 ∷ 3 ∷ 5 ∷ 2 ∷ 4 ∷ 3 ∷ 4 ∷ 6 ∷ 2 ∷ 5 ∷ 7 ∷ 1 ∷ 7
+        ∷ 3 ∷ 0 ∷ 4 ∷ 3 ∷ 0 ∷ 0 ∷ 5 ∷ 0 ∷ 6 ∷ 6 ∷ 0 ∷ 0 ∷ 2 ∷ 0 ∷ [])
+    -- * B = 8: 7 copies, 8 edges
+    ∷ (sheetOf (paper 8),
+        0 ∷ 0 ∷ 7 ∷ 8 ∷ 8
+        ∷ 1 ∷ 8 ∷ 1 ∷ 2 ∷ 0 ∷ 0 ∷ 3 ∷ 8 ∷ 2 ∷ 4 ∷ 3 ∷ 4 ∷ 5 ∷ 6 ∷ 5 ∷ 6 ∷ 2 ∷ 6 ∷ 7 ∷ 1 ∷ 8
+        ∷ 3 ∷ 0 ∷ 4 ∷ 3 ∷ 5 ∷ 0 ∷ 6 ∷ 0 ∷ 6 ∷ 0 ∷ 7 ∷ 7 ∷ 0 ∷ 0 ∷ 2 ∷ 0 ∷ [])
+    -- B = 9, printed whole as a listing: 9 copies, 11 edges
+    ∷ (sheetOf (paper 9),
+        0 ∷ 0 ∷ 9 ∷ 11 ∷ 9
+        ∷ 1 ∷ 9 ∷ 1 ∷ 2 ∷ 0 ∷ 0 ∷ 3 ∷ 9 ∷ 2 ∷ 4 ∷ 7 ∷ 4 ∷ 5 ∷ 6 ∷ 5 ∷ 6 ∷ 2 ∷ 6 ∷ 6 ∷ 6 ∷ 8 ∷ 7 ∷ 1 ∷ 10 ∷ 8 ∷ 5 ∷ 11
+        ∷ 3 ∷ 0 ∷ 4 ∷ 3 ∷ 5 ∷ 0 ∷ 7 ∷ 0 ∷ 6 ∷ 0 ∷ 8 ∷ 7 ∷ 0 ∷ 0 ∷ 8 ∷ 9 ∷ 9 ∷ 0 ∷ 2 ∷ 0 ∷ 2 ∷ 0 ∷ [])
+    -- * B = 11: as at 9, with budget 11
+    ∷ (sheetOf (paper 11),
+        0 ∷ 0 ∷ 9 ∷ 11 ∷ 11
+        ∷ 1 ∷ 9 ∷ 1 ∷ 2 ∷ 0 ∷ 0 ∷ 3 ∷ 9 ∷ 2 ∷ 4 ∷ 7 ∷ 4 ∷ 5 ∷ 6 ∷ 5 ∷ 6 ∷ 2 ∷ 6 ∷ 6 ∷ 6 ∷ 8 ∷ 7 ∷ 1 ∷ 10 ∷ 8 ∷ 5 ∷ 11
+        ∷ 3 ∷ 0 ∷ 4 ∷ 3 ∷ 5 ∷ 0 ∷ 7 ∷ 0 ∷ 6 ∷ 0 ∷ 8 ∷ 7 ∷ 0 ∷ 0 ∷ 8 ∷ 9 ∷ 9 ∷ 0 ∷ 2 ∷ 0 ∷ 2 ∷ 0 ∷ [])
+    -- * B = 12: 8 copies, 9 edges, no target 0
+    ∷ (sheetOf (paper 12),
+        0 ∷ 0 ∷ 8 ∷ 9 ∷ 12
+        ∷ 1 ∷ 12 ∷ 1 ∷ 2 ∷ 0 ∷ 0 ∷ 3 ∷ 12 ∷ 2 ∷ 4 ∷ 7 ∷ 4 ∷ 5 ∷ 10 ∷ 5 ∷ 6 ∷ 6 ∷ 6 ∷ 7 ∷ 1 ∷ 8 ∷ 8 ∷ 5 ∷ 9
+        ∷ 3 ∷ 0 ∷ 4 ∷ 3 ∷ 5 ∷ 0 ∷ 6 ∷ 0 ∷ 6 ∷ 0 ∷ 7 ∷ 7 ∷ 8 ∷ 0 ∷ 2 ∷ 0 ∷ 2 ∷ 0 ∷ [])
+    -- * Words 2 1 0, 0 1, 0 0, 2 0: built as 2 1 0, 1 0 1, 2 0 0, 2 0
+    ∷ (sheetOf least,
+        0 ∷ 0 ∷ 2 ∷ 1 ∷ 0
+        ∷ 1 ∷ 0 ∷ 1 ∷ 2 ∷ 0 ∷ 0
+        ∷ 2 ∷ 0 ∷ [])
+    -- * Block 3, cost 3, successors 3 and 2, start to 3, B = 7: copies (1, 6), (2, 0), (3, 3), (3, 6), 5 edges
+    ∷ (sheetOf (loop 7),
+        0 ∷ 0 ∷ 4 ∷ 5 ∷ 7
+        ∷ 1 ∷ 6 ∷ 1 ∷ 2 ∷ 0 ∷ 0 ∷ 3 ∷ 3 ∷ 2 ∷ 3 ∷ 6 ∷ 4
+        ∷ 4 ∷ 0 ∷ 0 ∷ 3 ∷ 2 ∷ 0 ∷ 3 ∷ 5 ∷ 2 ∷ 0 ∷ [])
+    -- * At B = 9: 5 copies
+    ∷ (sheetOf (loop 9),
+        0 ∷ 0 ∷ 5 ∷ 7 ∷ 9
+        ∷ 1 ∷ 9 ∷ 1 ∷ 2 ∷ 0 ∷ 0 ∷ 3 ∷ 3 ∷ 2 ∷ 3 ∷ 6 ∷ 4 ∷ 3 ∷ 9 ∷ 6
+        ∷ 5 ∷ 0 ∷ 0 ∷ 3 ∷ 2 ∷ 0 ∷ 3 ∷ 5 ∷ 2 ∷ 0 ∷ 4 ∷ 7 ∷ 2 ∷ 0 ∷ [])
+    -- * Block 3, cost 1, twice to 2, B = 1: targets 2 2
+    ∷ (sheetOf twice,
+        0 ∷ 0 ∷ 3 ∷ 3 ∷ 1
+        ∷ 1 ∷ 1 ∷ 1 ∷ 2 ∷ 0 ∷ 0 ∷ 3 ∷ 1 ∷ 2
+        ∷ 3 ∷ 0 ∷ 2 ∷ 3 ∷ 2 ∷ 0 ∷ [])
+    -- the listing with B = 9, byte for byte
+    ∷ (listingFor (inBytes (paper 9)),
+        99 ∷ 111 ∷ 112 ∷ 105 ∷ 101 ∷ 115 ∷ 32 ∷ 57 ∷ 32 ∷ 101 ∷ 100 ∷ 103 ∷ 101 ∷ 115 ∷ 32 ∷ 49 ∷ 49 ∷ 32 ∷ 98 ∷ 117 ∷ 100 ∷ 103 ∷ 101 ∷ 116 ∷ 32 ∷ 57 ∷ 10
+        ∷ 49 ∷ 32 ∷ 49 ∷ 32 ∷ 57 ∷ 32 ∷ 51 ∷ 10
+        ∷ 50 ∷ 32 ∷ 50 ∷ 32 ∷ 48 ∷ 10
+        ∷ 51 ∷ 32 ∷ 51 ∷ 32 ∷ 57 ∷ 32 ∷ 52 ∷ 32 ∷ 53 ∷ 10
+        ∷ 52 ∷ 32 ∷ 52 ∷ 32 ∷ 55 ∷ 32 ∷ 55 ∷ 10
+        ∷ 53 ∷ 32 ∷ 53 ∷ 32 ∷ 54 ∷ 32 ∷ 54 ∷ 10
+        ∷ 54 ∷ 32 ∷ 54 ∷ 32 ∷ 50 ∷ 32 ∷ 56 ∷ 32 ∷ 48 ∷ 10
+        ∷ 55 ∷ 32 ∷ 54 ∷ 32 ∷ 54 ∷ 32 ∷ 56 ∷ 32 ∷ 57 ∷ 10
+        ∷ 56 ∷ 32 ∷ 55 ∷ 32 ∷ 49 ∷ 32 ∷ 50 ∷ 10
+        ∷ 57 ∷ 32 ∷ 56 ∷ 32 ∷ 53 ∷ 32 ∷ 50 ∷ 10 ∷ [])
+    -- `refused` and the number
+    ∷ (listingFor (inBytes (paper 4)), 114 ∷ 101 ∷ 102 ∷ 117 ∷ 115 ∷ 101 ∷ 100 ∷ 32 ∷ 57 ∷ 10 ∷ [])
+    ∷ []

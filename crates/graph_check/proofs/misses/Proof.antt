@@ -1,0 +1,38 @@
+-- A search for an edge that is not marked.
+-- Rests on Search and Conditions.
+use mathlib.Core.Path.{refl, ap}
+use mathlib.Core.Bool.{not}
+use Prim.Native.Nat.{ℕ, _+_, _-_}
+use borrow.Author.Needs.{needs}
+use borrow.Author.Tests.{eq-eqb, ne-eqb}
+use Rattle.graph_check.specs.Marks.{marked, missed}
+use Rattle.graph_check.proofs.Search.{Search, begin, found, onward, none}
+use Rattle.graph_check.proofs.Conditions.{missed-are}
+use Rattle.graph_check.proofs.misses.Statement.{statement}
+use Rattle.graph_check.proofs.misses.Tie as tie
+
+abbrev Inv-loop : tie.InvT-loop
+Inv-loop seen m e₀ e = Search (missed m seen) (λ e. not (marked seen e)) m e
+
+abbrev μ-loop : tie.MeasureT-loop
+μ-loop seen m e₀ e = m + 1 - e
+
+loop-holds : tie.Need-loop-holds Inv-loop μ-loop
+loop-holds c = begin refl (missed-are _ _)
+
+returns : tie.Need-returns Inv-loop μ-loop
+unfolding marked
+returns c = found (c .before .before .before .loop .inv) (c .before .before .loop-test .taken) (ap (λ x. not (not x)) (eq-eqb _ _ (c .if1 .taken)))
+
+loop-again : tie.Need-loop-again Inv-loop μ-loop
+unfolding marked
+loop-again c = onward (c .before .before .before .loop .inv) (c .before .before .loop-test .taken) (ap (λ x. not (not x)) (ne-eqb _ _ (c .if1 .left)))
+
+returns-2 : tie.Need-returns-2 Inv-loop μ-loop
+returns-2 c = none (c .before .loop .inv) (c .loop-test .left)
+
+pub misses-spec : {M : Type 1} → statement M
+misses-spec =
+    tie.close
+    (tie.spec Inv-loop μ-loop loop-holds (λ c. search needs) returns (λ c. search needs) (λ c. search needs) loop-again
+    returns-2)
