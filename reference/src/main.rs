@@ -190,7 +190,7 @@ fn monitored_case(random: &mut Random, size: Size) -> Vec<String> {
     let area_length = area_length(random, &words);
     let walk = random::graph_walk(random, &words);
     let choice = random::graph_choice(random, &words, walk);
-    let (answer, after, _) = monitored_move(&words, &vec![7; area_length], walk, choice);
+    let (answer, after, area) = monitored_move(&words, &vec![7; area_length], walk, choice);
     vec![
         "monitored".into(),
         row(&words),
@@ -199,6 +199,7 @@ fn monitored_case(random: &mut Random, size: Size) -> Vec<String> {
         choice.to_string(),
         answer.to_string(),
         walk_text(after),
+        row(&area),
     ]
 }
 

@@ -1,16 +1,67 @@
--- The number of successors: what a refused and an accepted call answer, and that an accepted sheet's chains stay inside.
--- Rests on Orders, formats Accepted.
+-- The number of successors: chains that stay inside the sheet, and what a refused and an accepted call answer.
+-- Rests on Orders, Chains, formats Accepted.
 use mathlib.Core.Path.{_≡_, refl, sym, ap, _∙_}
-use mathlib.Core.Logic.{⊎-elim}
 use mathlib.Core.Bool.{Bool, true, false}
 use mathlib.Core.List.{List, [], _∷_, _++_, List·Memᴰ, List·Memᴰ·head, List·Memᴰ·tail}
 use Prim.Native.Nat.{ℕ, zero, suc, _-_, _≤_, _<_}
 use native.Mathlib.Omega.{arith}
 use Rattle.base.specs.Lists.{all}
 use Rattle.base.specs.Checks.{refused, over, outside}
+use Rattle.base.proofs.Orders.{none-left}
 use Rattle.formats.specs.GraphSheet.{header, firstWord, nextWord, chain, successorCount, sheetOrder, sheetRefusal}
 use Rattle.formats.specs.GraphSheet.{BlockOf, countOrder, countSuccessors}
 use Rattle.formats.proofs.Accepted.{accepted, edge-inside}
-use Rattle.graph_check.specs.Chains.{Inside}
+use Rattle.graph_check.specs.Chains.{edgesFrom, Inside}
 use Rattle.graph_check.proofs.Orders.{tested, append-stops, append-passes, over-is}
 use Rattle.graph_check.proofs.Chains.{follow-more}
+
+module _ (w : List ℕ) where
+  -- A CHAIN INSIDE, edge by edge
+
+  module _ {k e : ℕ} (I : Inside w k e) (p : 0 < k) (n : e ≡ 0 → ⊥) where
+    here : (x : ℕ) → List·Memᴰ x (e ∷ edgesFrom w (k - 1) (nextWord (header w) w e)) → x ≤ header w .edges
+    unfolding Inside
+    here x = rw (follow-more (nextWord (header w) w) k e p n) at (I x)
+
+    pub edge-fits : e ≤ header w .edges
+    edge-fits = here e (List·Memᴰ·head refl)
+
+    pub inside-next : {x : ℕ} → x ≡ nextWord (header w) w e → Inside w (k - 1) x
+    unfolding Inside
+    inside-next q = rw q (λ y m. here y (List·Memᴰ·tail m))
+
+  pub chain-inside : (v : ℕ) → sheetRefusal w ≡ 0 → 1 ≤ v → v ≤ header w .blocks → Inside w (suc (header w .edges)) (firstWord (header w) w v)
+  unfolding Inside chain
+  chain-inside v ok p q x m = edge-inside w (accepted w ok) v x p q m .1
+
+  -- THE ANSWER
+
+  module _ (v : ℕ) where
+    abbrev i : BlockOf
+    i = record { sheet = w; block = v }
+
+    -- an answer and a count are those of the call
+    abbrev pub Answers : ℕ → ℕ → Type 0
+    Answers a n = (a ≡ countSuccessors w v .answer) × (n ≡ countSuccessors w v .count)
+
+    refuses : (a : ℕ) → refused countOrder i ≡ a → (a ≡ 0 → ⊥) → Answers a 0
+    unfolding countSuccessors
+    refuses zero q n = absurd (n refl)
+    refuses (suc a) q n = rw (q, countSuccessors) (refl, refl)
+
+    passes : sheetRefusal w ≡ 0 → refused countOrder i ≡ refused ((33, λ i. outside 1 (header (i .sheet) .blocks) (i .block)) ∷ []) i
+    unfolding countOrder sheetRefusal sheetOrder over all
+    passes ok = append-passes (over (λ i. i .sheet) sheetOrder) _ i refl (over-is (λ i. i .sheet) sheetOrder i ∙ ok)
+
+    pub sheet-refused : {a : ℕ} → a ≡ sheetRefusal w → (a ≡ 0 → ⊥) → Answers a 0
+    unfolding countOrder sheetRefusal
+    sheet-refused {a} q n =
+        let o = over-is (λ i. i .sheet) sheetOrder i ∙ sym q in
+        refuses a (append-stops (over (λ i. i .sheet) sheetOrder) _ i (λ z. n (sym o ∙ z)) ∙ o) n
+
+    pub block-refused : sheetRefusal w ≡ 0 → outside 1 (header w .blocks) v ≡ true → Answers 33 0
+    block-refused ok q = refuses 33 (passes ok ∙ tested 33 _ [] i q (none-left i)) (λ z. omega arith)
+
+    pub counted : {n : ℕ} → sheetRefusal w ≡ 0 → outside 1 (header w .blocks) v ≡ false → n ≡ successorCount (header w) w v → Answers 0 n
+    unfolding countSuccessors
+    counted ok q e = rw (passes ok ∙ tested 33 _ [] i q (none-left i), countSuccessors) (refl, e)

@@ -1,105 +1,67 @@
+-- A chain's length is 0 if it is empty, else one more than that of the rest. The measure is what is left to count.
+-- Rests on Chains and Counting.
+use mathlib.Core.Path.{_≡_, sym, ap, _∙_}
+use Prim.Native.Nat.{ℕ, suc, _-_, _≤_, _<_}
+use native.Mathlib.Omega.{arith}
 use borrow.Author.Needs.{needs}
-use Prim.Native.Nat.{ℕ, _<_}
 use borrow.Fn.Kinds.{In}
 use borrow.Fn.PlainCycle.{Measures, is, falls, and}
+use Rattle.formats.specs.Words.{chainLength}
+use Rattle.formats.specs.GraphSheet.{header, nextWord}
+use Rattle.graph_words.proofs.next_of.Reads as next-of
+use Rattle.graph_check.proofs.Chains.{follow-end, follow-out, length-end, length-more}
+use Rattle.graph_check.proofs.Counting.{edge-fits, inside-next}
 use Rattle.graph_check.proofs.chain_length.Reads as chain-length
-use Rattle.graph_check.proofs.chain_length.Kinds as chain-length-kinds
-use Rattle.graph_check.proofs.+chain_length.Lts-chain_length as chain-length-lts
-use Rattle.graph_words.proofs.next_of.Reads as next-of-reads
+use Rattle.graph_check.proofs.chain_length.Kinds as kinds
+use Rattle.graph_check.proofs.+chain_length.Lts-chain_length as lts
 use Rattle.graph_check.proofs.+chain_length.{statement}
 use Rattle.graph_check.proofs.+chain_length.Tie.{close}
 
-abbrev μ-chain-length : Measures 1 chain-length-kinds.ps ℕ
-μ-chain-length κs a = ?
+abbrev μ : Measures 1 kinds.ps ℕ
+μ κs a = a .1 .1 .0
 
-abbrev chain-length-at : ℕ → In 1 chain-length-kinds.ps
-chain-length-at t =
-    and 1 chain-length-kinds.ps (is 1 chain-length-kinds.ps μ-chain-length t) chain-length.Pre
+-- what a call is given at the measure t, and what a call of itself asks below t
+abbrev at : ℕ → In 1 kinds.ps
+at t = and 1 kinds.ps (is 1 kinds.ps μ t) chain-length.Pre
 
-abbrev chain-length-below : ℕ → In 1 chain-length-kinds.ps
-chain-length-below t =
-    and
-    1
-    chain-length-kinds.ps
-    (falls 1 chain-length-kinds.ps _<_ μ-chain-length t)
-    chain-length.Pre
+abbrev below : ℕ → In 1 kinds.ps
+below t = and 1 kinds.ps (falls 1 kinds.ps _<_ μ t) chain-length.Pre
 
--- src/lib.rt:209:9
-chain-length-returns : (t : ℕ) → chain-length-lts.Need-returns (
-  next-of-reads.Asked,
-  next-of-reads.Learnt,
-  chain-length-below t,
-  chain-length.Post,
-) (chain-length-at t) chain-length.Post
-chain-length-returns t c = search needs
+module _ (t : ℕ) where
+  returns : lts.Need-returns (next-of.Asked, next-of.Learnt, below t, chain-length.Post) (at t) chain-length.Post
+  returns c =
+      let w = c .before .before .args .s .now in
+      let next = nextWord (header w) w in
+      (sym (length-end next _ _ (follow-out next _ _ (c .if1 .taken))), omega arith)
 
--- src/lib.rt:212:9
-chain-length-returns-2 : (t : ℕ) → chain-length-lts.Need-returns-2 (
-  next-of-reads.Asked,
-  next-of-reads.Learnt,
-  chain-length-below t,
-  chain-length.Post,
-) (chain-length-at t) chain-length.Post
-chain-length-returns-2 t c = search needs
+  returns-2 : lts.Need-returns-2 (next-of.Asked, next-of.Learnt, below t, chain-length.Post) (at t) chain-length.Post
+  returns-2 c =
+      let w = c .before .before .before .args .s .now in
+      let next = nextWord (header w) w in
+      (sym (length-end next _ _ (follow-end next _ _ (c .if2 .taken))), omega arith)
 
--- src/lib.rt:214:9
-chain-length-next-of-requires : (t : ℕ) → chain-length-lts.Need-next-of-requires (
-  next-of-reads.Asked,
-  next-of-reads.Learnt,
-  chain-length-below t,
-  chain-length.Post,
-) (chain-length-at t) chain-length.Post
-chain-length-next-of-requires t c κs = search needs
+  next-of-requires : lts.Need-next-of-requires (next-of.Asked, next-of.Learnt, below t, chain-length.Post) (at t) chain-length.Post
+  next-of-requires c κs =
+      let z = c .before .before .before in
+      (z .pre .1 .0, (omega arith, edge-fits _ (z .pre .1 .1 .1) (omega arith) (c .if2 .left)))
 
--- src/lib.rt:215:31
-chain-length-sub-chain-length : (t : ℕ) → chain-length-lts.Need-sub-chain-length (
-  next-of-reads.Asked,
-  next-of-reads.Learnt,
-  chain-length-below t,
-  chain-length.Post,
-) (chain-length-at t) chain-length.Post
-chain-length-sub-chain-length t c = search needs
+  rest-requires : lts.Need-chain-length-requires (next-of.Asked, next-of.Learnt, below t, chain-length.Post) (at t) chain-length.Post
+  rest-requires c κs =
+      let z = c .before .before .before .before in
+      let rest = inside-next _ (z .pre .1 .1 .1) (omega arith) (c .before .if2 .left) (c .next-of .ensures .0) in
+      (omega arith, (z .pre .1 .0, (omega arith, rest)))
 
--- src/lib.rt:215:9
-chain-length-chain-length-requires : (t : ℕ) → chain-length-lts.Need-chain-length-requires (
-  next-of-reads.Asked,
-  next-of-reads.Learnt,
-  chain-length-below t,
-  chain-length.Post,
-) (chain-length-at t) chain-length.Post
-chain-length-chain-length-requires t c κs = search needs
-
--- src/lib.rt:215:5
-chain-length-add-result : (t : ℕ) → chain-length-lts.Need-add-result (
-  next-of-reads.Asked,
-  next-of-reads.Learnt,
-  chain-length-below t,
-  chain-length.Post,
-) (chain-length-at t) chain-length.Post
-chain-length-add-result t c = search needs
-
--- src/lib.rt:202:1
-chain-length-returns-3 : (t : ℕ) → chain-length-lts.Need-returns-3 (
-  next-of-reads.Asked,
-  next-of-reads.Learnt,
-  chain-length-below t,
-  chain-length.Post,
-) (chain-length-at t) chain-length.Post
-chain-length-returns-3 t c = search needs
+  returns-3 : lts.Need-returns-3 (next-of.Asked, next-of.Learnt, below t, chain-length.Post) (at t) chain-length.Post
+  returns-3 c =
+      let z = c .before .before .before .before .before in
+      let next = nextWord (header (z .args .s .now)) (z .args .s .now) in
+      let n : ℕ → ℕ = chainLength next (z .args .k - 1) in
+      let p : c .chain-length .result ≡ n (next (z .args .e)) = c .chain-length .ensures .0 ∙ ap n (c .before .next-of .ensures .0) in
+      let q = length-more next _ _ (omega arith) (c .before .before .if2 .left) in
+      (omega arith, omega arith)
 
 pub +chain-length-spec : {M : Type 1} → statement M
-+chain-length-spec = close μ-chain-length λ t. chain-length-lts.spec (
-  next-of-reads.Asked,
-  next-of-reads.Learnt,
-  chain-length-below t,
-  chain-length.Post,
-)
-    (chain-length-at t)
-    chain-length.Post
-    (chain-length-returns t)
-    (chain-length-returns-2 t)
-    (chain-length-next-of-requires t)
-    (chain-length-sub-chain-length t)
-    (chain-length-chain-length-requires t)
-    (chain-length-add-result t)
-    (chain-length-returns-3 t)
++chain-length-spec =
+    close μ
+    (λ t. lts.spec (next-of.Asked, next-of.Learnt, below t, chain-length.Post) (at t) chain-length.Post (returns t) (returns-2 t) (next-of-requires t)
+    (λ c. search needs) (rest-requires t) (λ c. search needs) (returns-3 t))
