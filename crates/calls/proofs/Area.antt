@@ -1,19 +1,19 @@
 -- The cells of the work area, for any number of blocks and any budget; what a call leaves in the area and in the output row.
 -- Rests on base Lists, specs Area and Build.
 use mathlib.Core.Path.{_≡_, refl, sym, ap, _∙_}
-use mathlib.Core.Bool.{Bool, true, false}
+use mathlib.Core.Bool.{Bool, true, false, not}
 use mathlib.Core.List.{List, [], _∷_, _++_, map}
 use Prim.Native.Nat.{ℕ, zero, suc, _+_, _-_, _*_, _≤_, _<_}
 use native.Mathlib.Omega.{arith}
 use native.Mathlib.Nat.{mul-le-mul-right}
+use lib.Dec.{eqb}
 use lib.ListN.{length, getD, take, drop, length-map, length-append, length-drop, List·getD-append}
 use lib.Seq.{getD-append-add, getD-drop, take-at, drop-at}
 use Rattle.base.specs.Lists.{each, from}
 use Rattle.base.proofs.Lists.{from-length}
 use Rattle.theory.specs.Completions.{Graph, completes}
-use Rattle.formats.specs.GraphSheet.{header}
-use Rattle.calls.specs.SheetGraph.{graph, boundedSheet}
-use Rattle.calls.specs.Area.{marks, byteOf, bytes, cellOf, areaSize, filled}
+use Rattle.calls.specs.SheetGraph.{boundedSheet}
+use Rattle.calls.specs.Area.{cellOf, areaSize, marks, byteOf, bytes, filled, stands, Table}
 use Rattle.calls.specs.Build.{outputAfter}
 
 -- a cell of one line
@@ -58,12 +58,18 @@ module _ (g : Graph) (n b v c : ℕ) (low : 1 ≤ v) (high : v ≤ n) (most : c 
   pub byte-mark : getD (bytes (marks g n b)) (cellOf b v c) 0 ≡ byteOf (completes g v c)
   byte-mark = bytes-at (marks g n b) (cellOf b v c) ∙ ap byteOf (mark-at g n b v c low high most)
 
-  inside : cellOf b v c < n * suc b
+  pub inside : cellOf b v c < n * suc b
   unfolding cellOf
   inside =
       let e : suc (v - 1) ≡ v = omega arith in
       let l : suc (v - 1) * suc b ≤ n * suc b = rw e (mul-le-mul-right (suc b) high) in
       omega arith
+
+-- a byte is set where its mark is
+pub set-byte : (m : Bool) → not (eqb (byteOf m) 0) ≡ m
+unfolding byteOf
+set-byte true = refl
+set-byte false = refl
 
 -- THE AREA AFTER A CALL
 
@@ -78,35 +84,39 @@ marks-length g n b = lines n 1
         let rest = each (λ v. map (completes g v) (from 0 (suc b))) (from (suc x) k) in
         omega (arith, length-append line rest, length-map (from 0 (suc b)) (completes g x), from-length (suc b) 0, lines k (suc x))
 
-module _ (w area : List ℕ) (room : areaSize w ≤ length area) where
-  abbrev table : List ℕ
-  table = bytes (marks (graph w) (header w .blocks) (header w .budget))
-
-  table-length : length table ≡ areaSize w
+module _ (g : Graph) (n b : ℕ) (area : List ℕ) (room : areaSize n b ≤ length area) where
+  table-length : length (bytes (marks g n b)) ≡ areaSize n b
   unfolding areaSize bytes
-  table-length =
-      length-map (marks (graph w) (header w .blocks) (header w .budget)) byteOf
-      ∙ marks-length (graph w) (header w .blocks) (header w .budget)
+  table-length = length-map (marks g n b) byteOf ∙ marks-length g n b
 
   -- a cell is 1 where its block has its completion cost, else 0
-  pub cell-filled : (v c : ℕ) → 1 ≤ v → v ≤ header w .blocks → c ≤ header w .budget
-      → getD (filled w area) (cellOf (header w .budget) v c) 0 ≡ byteOf (completes (graph w) v c)
+  pub cell-filled : (v c : ℕ) → 1 ≤ v → v ≤ n → c ≤ b → getD (filled g n b area) (cellOf b v c) 0 ≡ byteOf (completes g v c)
   unfolding areaSize filled
   cell-filled v c p q l =
-      let i = inside (graph w) (header w .blocks) (header w .budget) v c p q l in
-      List·getD-append table _ 0 _ (omega (arith, table-length)) ∙ byte-mark (graph w) (header w .blocks) (header w .budget) v c p q l
+      let i = inside g n b v c p q l in
+      List·getD-append (bytes (marks g n b)) _ 0 _ (omega (arith, table-length)) ∙ byte-mark g n b v c p q l
 
   -- the rest is untouched, and so is the length
-  pub rest-untouched : (i : ℕ) → getD (filled w area) (areaSize w + i) 0 ≡ getD area (areaSize w + i) 0
+  pub rest-untouched : (i : ℕ) → getD (filled g n b area) (areaSize n b + i) 0 ≡ getD area (areaSize n b + i) 0
   unfolding filled
   rest-untouched i =
-      let p : areaSize w + i ≡ length table + i = omega (arith, table-length) in
-      let rest = drop (areaSize w) area in
-      ap (λ (n : ℕ). getD (table ++ rest) n 0) p ∙ getD-append-add table rest i 0 ∙ getD-drop (areaSize w) area i 0
+      let t = bytes (marks g n b) in
+      let rest = drop (areaSize n b) area in
+      let p : areaSize n b + i ≡ length t + i = omega (arith, table-length) in
+      ap (λ (k : ℕ). getD (t ++ rest) k 0) p ∙ getD-append-add t rest i 0 ∙ getD-drop (areaSize n b) area i 0
 
-  pub filled-length : length (filled w area) ≡ length area
+  pub filled-length : length (filled g n b area) ≡ length area
   unfolding filled
-  filled-length = length-append table (drop (areaSize w) area) ∙ omega (arith, table-length, length-drop (areaSize w) area)
+  filled-length =
+      length-append (bytes (marks g n b)) (drop (areaSize n b) area) ∙ omega (arith, table-length, length-drop (areaSize n b) area)
+
+  -- so it stands for the completion costs
+  pub filled-table : Table g n b (filled g n b area)
+  unfolding stands
+  filled-table = record {
+    room = omega (arith, filled-length);
+    cells = λ v c p q l. ap (λ (x : ℕ). not (eqb x 0)) (cell-filled v c p q l) ∙ set-byte (completes g v c);
+  }
 
 -- THE OUTPUT ROW after an accepted build: its words, and the rest untouched
 pub output-words : (w output : List ℕ) → take (length (boundedSheet w)) (outputAfter w 0 output) ≡ boundedSheet w

@@ -1,15 +1,12 @@
 -- DEMANDS 2 AND 3, from the build's answer 0 alone.
--- Rests on theory Agreement and Shape, Built, Moves, Area.
+-- Rests on theory Agreement and Shape, Weigh, Built, Construction, Moves, Area.
 use mathlib.Core.Path.{_≡_, refl, sym, ap, subst, _∙_}
 use mathlib.Core.Logic.{_↔_}
-use mathlib.Core.Bool.{false}
 use mathlib.Core.List.{List, map, map-id, List·Memᴰ}
-use mathlib.Core.Option.{Option, some, none}
 use Prim.Native.Nat.{ℕ, suc, _≤_}
 use native.Mathlib.Omega.{arith}
 use borrow.Author.Tests.{ltb-false}
 use lib.ListN.{length, take}
-use Rattle.base.specs.Lists.{isNone}
 use Rattle.base.proofs.Truth.{or-false}
 use Rattle.base.proofs.Orders.{unrefused, over-e}
 use Rattle.theory.specs.Machines.{End, going, exit, diverted, Reply, reply, final, zeros, Unchanged}
@@ -19,37 +16,29 @@ use Rattle.theory.proofs.Runs.{RunsAs, runs-as, unchanged-as, keeps-all}
 use Rattle.theory.proofs.Agreement.{agrees, paths-kept}
 use Rattle.theory.proofs.Shape.{monitor-kept, monitor-start, Held, held-shape, held-kept, held-start}
 use Rattle.formats.specs.Limits.{mostCopies, mostBoundedEdges}
-use Rattle.formats.specs.GraphSheet.{header, sheetOrder, sheetRefusal}
+use Rattle.formats.specs.GraphSheet.{header}
 use Rattle.formats.specs.BoundedSheet.{heading, sheetWords}
 use Rattle.formats.specs.Rule11.{boundedRefusal}
-use Rattle.formats.proofs.Accepted.{graph-numbered}
 use Rattle.calls.specs.SheetGraph.{graph, boundedSheet, readBounded}
-use Rattle.calls.specs.Area.{areaSize}
-use Rattle.calls.specs.Build.{nothingFits, tooMany, Lent, buildOrder, outputAfter, build}
+use Rattle.calls.specs.Weigh.{Weighing, sheetArea, weighOrder}
+use Rattle.calls.specs.Build.{tooMany, Lent, buildOrder, outputAfter, build}
 use Rattle.calls.specs.Moves.{Move, monitoredReply, boundedMove}
 use Rattle.calls.specs.Demand.{boundedBlock, builtWords, Demand3}
 use Rattle.calls.specs.Construction.{Demand2}
+use Rattle.calls.proofs.Weigh.{weigh-numbered, weighs-e}
 use Rattle.calls.proofs.Built.{Buildable, setting, entry, entry-first, sheet-lays-out, keeps-rule}
 use Rattle.calls.proofs.Construction.{demand2}
 use Rattle.calls.proofs.Moves.{monitored-as, bounded-as}
 use Rattle.calls.proofs.Area.{output-words}
 
 -- an accepted build
-some-low : (o : Option ℕ) → isNone o ≡ false → (a : ℕ) × (o ≡ some a)
-unfolding isNone
-some-low none e = absurd (let z : _≡_ {A = ℕ} 0 1 = cc in omega arith)
-some-low (some a) e = (a, refl)
-
 pub buildable : (i : Lent) → build i .answer ≡ 0 → Buildable (i .sheet)
-unfolding build buildOrder sheetRefusal nothingFits tooMany
+unfolding build buildOrder tooMany
 buildable i e =
-    let o = over-e (λ i. i .sheet) sheetOrder _ i graph-numbered e in
-    let a = unrefused 20 _ _ i (o .1) in
-    let b = unrefused 8 _ _ i (a .1) in
-    let c = unrefused 9 _ _ i (b .1) in
-    let l = some-low _ (b .0) in
-    let m = or-false _ _ (c .0) in
-    record { ok = o .0; start = l .0; opens = l .1; few = ltb-false mostCopies _ (m .0); edges = ltb-false mostBoundedEdges _ (m .1) }
+    let o = over-e (λ (i : Lent). record { sheet = i .sheet; area = i .area }) weighOrder _ i weigh-numbered e in
+    let p = weighs-e (record { sheet = i .sheet; area = i .area }) (o .0) in
+    let m = or-false _ _ (unrefused 9 _ _ i (o .1) .0) in
+    record { ok = p .ok; start = p .start; opens = p .opens; few = ltb-false mostCopies _ (m .0); edges = ltb-false mostBoundedEdges _ (m .1) }
 
 module _ (w : List ℕ) (K : Buildable w) where
   abbrev N : ℕ
@@ -76,10 +65,10 @@ module _ (w : List ℕ) (K : Buildable w) where
   monitor-shape : (ks : List ℕ) → InShape N 2 B (final (reply (monitor (graph w) B)) starting ks)
   monitor-shape ks = keeps-all (monitor (graph w) B) (InShape N 2 B) (monitor-kept S B) ks starting (monitor-start S B)
 
-  monitored-run : (ms : List Move) → ((i : Move) → List·Memᴰ i ms → areaSize w ≤ length (i .area))
+  monitored-run : (ms : List Move) → ((i : Move) → List·Memᴰ i ms → sheetArea w ≤ length (i .area))
       → RunsAs (monitoredReply w) (reply (monitor (graph w) B)) starting ms (map (λ i. i .choice) ms)
   monitored-run ms room =
-      runs-as (monitor (graph w) B) (monitoredReply w) (λ i. i .choice) (InShape N 2 B) (λ i. areaSize w ≤ length (i .area)) (monitor-kept S B)
+      runs-as (monitor (graph w) B) (monitoredReply w) (λ i. i .choice) (InShape N 2 B) (λ i. sheetArea w ≤ length (i .area)) (monitor-kept S B)
       (λ s h i room. monitored-as w i s (K .start) (K .ok) room (K .opens) h) ms room starting (monitor-start S B)
 
   abbrev pub OnCopies : Walk → Type 0
@@ -113,7 +102,7 @@ module _ (w : List ℕ) (K : Buildable w) where
 
   -- while going, the choice 1 is answered 0
   monitored-next : (ks : List ℕ) (z : Walk) → z ≡ final (reply (monitor (graph w) B)) starting ks → z .end ≡ going
-      → (area : List ℕ) → areaSize w ≤ length area → monitoredReply w z (record { choice = 1; area = area }) .answer ≡ 0
+      → (area : List ℕ) → sheetArea w ≤ length area → monitoredReply w z (record { choice = 1; area = area }) .answer ≡ 0
   monitored-next ks z q e area room =
       let i : Move = record { choice = 1; area = area } in
       ap (λ (s : Walk). monitoredReply w s i .answer) q
@@ -143,7 +132,7 @@ module _ (w : List ℕ) (K : Buildable w) where
       let u = unchanged-as (bounded-run ks) (boundedBlock t) (λ s. s .end) bs in
       (λ l. u .0 (p .0 l), λ h. p .1 (u .1 h))
 
-  whole : (ms : List Move) → ((i : Move) → List·Memᴰ i ms → areaSize w ≤ length (i .area)) → Demand3 w t ms
+  whole : (ms : List Move) → ((i : Move) → List·Memᴰ i ms → sheetArea w ≤ length (i .area)) → Demand3 w t ms
   unfolding readBounded mostMoves
   whole ms room =
       let ks = map (λ i. i .choice) ms in
@@ -184,7 +173,7 @@ module _ (i : Lent) (accepted : build i .answer ≡ 0) where
   keeps-demand2 = subst (Demand2 (i .sheet)) (sym filled-words) (demand2 (i .sheet) (buildable i accepted))
 
   -- over every list of choices, with any work areas that 21 lets pass
-  pub keeps-demand3 : (ms : List Move) → ((m : Move) → List·Memᴰ m ms → areaSize (i .sheet) ≤ length (m .area))
+  pub keeps-demand3 : (ms : List Move) → ((m : Move) → List·Memᴰ m ms → sheetArea (i .sheet) ≤ length (m .area))
       → Demand3 (i .sheet) (builtWords i) ms
   keeps-demand3 ms room =
       subst (λ (t : List ℕ). Demand3 (i .sheet) t ms) (sym filled-words) (whole (i .sheet) (buildable i accepted) ms room)

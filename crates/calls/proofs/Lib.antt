@@ -6,6 +6,8 @@ pub mod SettingRows
 pub mod Built
 -- demand 2, from what an accepted build says of its sheet: demand2
 pub mod Construction
+-- what an answer 0 of weighing says: weighs-e
+pub mod Weigh
 -- calls reply as the machines do: monitored-as, bounded-as
 pub mod Moves
 -- demands 2 and 3 from the build's answer 0: keeps-demand2, keeps-demand3

@@ -1,6 +1,6 @@
 -- A walk in shape, on an accepted sheet and with area enough, is refused by 32 and 31 alone: its calls reply as the machines do.
--- Rests on base Orders, theory Walks, formats Accepted and RuleKept, specs Moves.
-use mathlib.Core.Path.{_≡_, refl, ap}
+-- Rests on base Orders, theory Walks, formats RuleKept, Weigh.
+use mathlib.Core.Path.{_≡_, refl}
 use mathlib.Core.Bool.{Bool, true, false, not, Bool·beq}
 use mathlib.Core.List.{List}
 use mathlib.Core.Option.{some}
@@ -8,20 +8,18 @@ use Prim.Native.Nat.{ℕ, _≤_}
 use borrow.Author.Tests.{le-ltb}
 use lib.Dec.{eqb}
 use lib.ListN.{length}
-use Rattle.base.specs.Lists.{isNone}
 use Rattle.base.specs.Checks.{refused}
 use Rattle.base.proofs.Orders.{passed, none-left, over-i, not-outside}
 use Rattle.theory.specs.Completions.{lowOf}
 use Rattle.theory.specs.Machines.{Reply, reply}
 use Rattle.theory.specs.Walks.{Walk, isExit, InShape, mostMoves, monitor, Bounded, boundedWalk}
-use Rattle.formats.specs.GraphSheet.{header, sheetOrder, sheetRefusal}
+use Rattle.formats.specs.GraphSheet.{header, sheetRefusal}
 use Rattle.formats.specs.BoundedSheet.{heading}
 use Rattle.formats.specs.Rule11.{boundedOrder, boundedRefusal}
-use Rattle.formats.proofs.Accepted.{graph-numbered}
 use Rattle.formats.proofs.RuleKept.{bounded-numbered}
 use Rattle.calls.specs.SheetGraph.{graph, readBounded}
-use Rattle.calls.specs.Area.{areaSize}
-use Rattle.calls.specs.Build.{smallArea, nothingFits}
+use Rattle.calls.specs.Weigh.{Weighing, sheetArea, weighOrder}
+use Rattle.calls.proofs.Weigh.{weigh-numbered, weighs}
 use Rattle.calls.specs.Moves.{outOfShape, Move, MonitoredInput, BoundedInput, monitoredOrder, boundedMoveOrder, unless, monitoredReply}
 use Rattle.calls.specs.Moves.{boundedMove}
 
@@ -42,16 +40,15 @@ unless-zero : (n : ℕ) (s : Walk) (r : Reply Walk) → n ≡ 0 → unless n s r
 unfolding unless
 unless-zero n s r e = rw e
 
-pub monitored-as : (w : List ℕ) (i : Move) (s : Walk) (a : ℕ) → sheetRefusal w ≡ 0 → areaSize w ≤ length (i .area)
+pub monitored-as : (w : List ℕ) (i : Move) (s : Walk) (a : ℕ) → sheetRefusal w ≡ 0 → sheetArea w ≤ length (i .area)
     → lowOf (graph w) 1 (header w .budget) ≡ some a
     → InShape (header w .blocks) 2 (header w .budget) s → monitoredReply w s i ≡ reply (monitor (graph w) (header w .budget)) s (i .choice)
-unfolding monitoredReply monitoredOrder sheetRefusal smallArea nothingFits isNone
+unfolding monitoredReply monitoredOrder
 monitored-as w i s a e room low h =
     let x : MonitoredInput = record { sheet = w; area = i .area; walk = s } in
-    let fits : nothingFits w ≡ false = ap isNone low in
-    unless-zero (refused monitoredOrder x) s _ (over-i (λ i. i .sheet) sheetOrder _ x graph-numbered e
-    (passed 21 _ _ x (le-ltb (length (i .area)) (areaSize w) room)
-    (passed 9 _ _ x fits (passed 33 _ _ x (in-shape (header w .blocks) 2 (header w .budget) s h) (none-left x)))))
+    unless-zero (refused monitoredOrder x) s _
+    (over-i (λ (i : MonitoredInput). record { sheet = i .sheet; area = i .area }) weighOrder _ x weigh-numbered (weighs w (i .area) a e room low)
+    (passed 33 _ _ x (in-shape (header w .blocks) 2 (header w .budget) s h) (none-left x)))
 
 pub bounded-as : (t : List ℕ) (s : Walk) (k : ℕ) → boundedRefusal t ≡ 0
     → InShape (readBounded t .size) (readBounded t .last) (mostMoves (heading t .budget) (s .end)) s

@@ -23,8 +23,9 @@ use Rattle.formats.specs.Rule11.{badExit, badEdgeOrder, badTargetWords, bounded
 use Rattle.formats.specs.File.{wordOf, wordsOf, oddBytes}
 use Rattle.formats.specs.Listing.{digits, decimal, line, headingLine, copyLine, listingOf, refusalOf}
 use Rattle.calls.specs.SheetGraph.{graph, sheetCopies, rowOf, rowsOf, boundedSheet, readBounded}
-use Rattle.calls.specs.Area.{marks, byteOf, bytes, areaSize, filled}
-use Rattle.calls.specs.Build.{smallArea, nothingFits, tooMany, smallOutput, buildOrder, beforeWeighing, areaAfter, outputAfter, build}
+use Rattle.calls.specs.Area.{areaSize, marks, byteOf, bytes, filled}
+use Rattle.calls.specs.Weigh.{sheetArea, smallArea, nothingFits, weighOrder, beforeWeighing, areaAfter}
+use Rattle.calls.specs.Build.{tooMany, smallOutput, buildOrder, outputAfter, build}
 use Rattle.calls.specs.Moves.{outOfShape, unless, monitoredOrder, monitoredReply, monitoredMove, boundedMoveOrder, boundedMove}
 use Rattle.calls.specs.Program.{fileOrder, listing}
 use Rattle.calls.specs.Cases.{Case, endNumber, sheetShown, outcome}
@@ -50,8 +51,8 @@ unfolding examples paper loop twice least inBytes
     tooShort badLimits wrongLength largeBudget badBlocks badLows badCopyOrder copiesOf notOneOf
     badExit badEdgeOrder badTargetWords boundedOrder boundedRefusal
     wordOf wordsOf oddBytes digits decimal line headingLine copyLine listingOf refusalOf
-    graph sheetCopies rowOf rowsOf boundedSheet areaSize
-    smallArea nothingFits tooMany smallOutput buildOrder build fileOrder listing sheetShown outcome
+    graph sheetCopies rowOf rowsOf boundedSheet areaSize sheetArea
+    smallArea nothingFits weighOrder tooMany smallOutput buildOrder build fileOrder listing sheetShown outcome
 starred = refl
 
 pub pinned : Pinned refusals
@@ -66,8 +67,8 @@ unfolding refusals nine six paper loop least inBytes
     tooShort badLimits wrongLength largeBudget badBlocks badLows badCopyOrder copiesOf notOneOf
     badExit badEdgeOrder badTargetWords boundedOrder boundedRefusal partOrder handOut
     wordOf wordsOf oddBytes digits decimal line headingLine copyLine listingOf refusalOf
-    graph sheetCopies rowOf rowsOf boundedSheet readBounded marks byteOf bytes areaSize filled
-    smallArea nothingFits tooMany smallOutput buildOrder beforeWeighing areaAfter outputAfter build
+    graph sheetCopies rowOf rowsOf boundedSheet readBounded marks byteOf bytes areaSize filled sheetArea
+    smallArea nothingFits weighOrder beforeWeighing areaAfter tooMany smallOutput buildOrder outputAfter build
     outOfShape unless monitoredOrder monitoredReply monitoredMove boundedMoveOrder boundedMove fileOrder listing endNumber outcome
 pinned = refl
 
@@ -82,7 +83,7 @@ pub orders : numbersOf buildOrder ∷ numbersOf monitoredOrder ∷ numbersOf bou
     ∷ (1 ∷ 2 ∷ 3 ∷ 4 ∷ 5 ∷ 6 ∷ 7 ∷ 8 ∷ 33 ∷ [])
     ∷ (1 ∷ 1 ∷ 2 ∷ 3 ∷ 4 ∷ 5 ∷ 6 ∷ 7 ∷ 8 ∷ 9 ∷ 10 ∷ [])
     ∷ []
-unfolding over sheetOrder boundedOrder buildOrder monitoredOrder boundedMoveOrder partOrder countOrder fileOrder
+unfolding over sheetOrder boundedOrder weighOrder buildOrder monitoredOrder boundedMoveOrder partOrder countOrder fileOrder
 orders = refl
 
 pub largest-sheets : map (λ (p : ℕ × ℕ). tooMany (record { copies = p .0; edges = p .1; budget = 0; records = 3 }))

@@ -1,13 +1,21 @@
 -- The work area: a byte for each block and each cost up to the budget, block by block (document 01, behind the tables of refusals).
--- Rests on base Lists, theory Completions, SheetGraph.
-use mathlib.Core.Bool.{Bool, true, false}
+-- Rests on base Lists, theory Completions. Any number of blocks, any budget.
+use mathlib.Core.Path.{_≡_}
+use mathlib.Core.Bool.{Bool, true, false, not}
 use mathlib.Core.List.{List, map, _++_}
-use Prim.Native.Nat.{ℕ, suc, _+_, _-_, _*_}
-use lib.ListN.{drop}
+use Prim.Native.Nat.{ℕ, suc, _+_, _-_, _*_, _≤_}
+use lib.Dec.{eqb}
+use lib.ListN.{length, getD, drop}
 use Rattle.base.specs.Lists.{each, from}
 use Rattle.theory.specs.Completions.{Graph, completes}
-use Rattle.formats.specs.GraphSheet.{header}
-use Rattle.calls.specs.SheetGraph.{graph}
+
+-- "its byte at (block − 1) × (B + 1) + cost"
+unfoldable pub cellOf : ℕ → ℕ → ℕ → ℕ
+cellOf b v c = (v - 1) * suc b + c
+
+-- "N × (B + 1)"
+unfoldable pub areaSize : ℕ → ℕ → ℕ
+areaSize n b = n * suc b
 
 -- which of the blocks 1 to n have which of the costs 0 to b as a completion cost
 unfoldable pub marks : Graph → ℕ → ℕ → List Bool
@@ -21,14 +29,15 @@ byteOf false = 0
 unfoldable pub bytes : List Bool → List ℕ
 bytes ms = map byteOf ms
 
--- "its byte at (block − 1) × (B + 1) + cost"
-unfoldable pub cellOf : ℕ → ℕ → ℕ → ℕ
-cellOf b v c = (v - 1) * suc b + c
-
--- the length that a sheet asks for: "N × (B + 1)"
-unfoldable pub areaSize : List ℕ → ℕ
-areaSize w = header w .blocks * suc (header w .budget)
-
 -- a work area that was filled; "the rest is untouched"
-unfoldable pub filled : List ℕ → List ℕ → List ℕ
-filled w area = bytes (marks (graph w) (header w .blocks) (header w .budget)) ++ drop (areaSize w) area
+unfoldable pub filled : Graph → ℕ → ℕ → List ℕ → List ℕ
+filled g n b area = bytes (marks g n b) ++ drop (areaSize n b) area
+
+-- WHICH COSTS AN AREA STANDS FOR: whether block v has the cost c
+unfoldable pub stands : ℕ → List ℕ → ℕ → ℕ → Bool
+stands b area v c = not (eqb (getD area (cellOf b v c) 0) 0)
+
+-- an area that stands for the completion costs up to b of the blocks 1 to n
+pub record Table (g : Graph) (n b : ℕ) (area : List ℕ) : Type 0 where
+  pub room : areaSize n b ≤ length area
+  pub cells : (v c : ℕ) → 1 ≤ v → v ≤ n → c ≤ b → stands b area v c ≡ completes g v c

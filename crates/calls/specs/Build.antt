@@ -1,26 +1,15 @@
 -- THE BUILD as a call: its answer, and what it leaves in the work area and in the output row (document 01, the tables of refusals).
--- Rests on base Checks, formats Limits and GraphSheet, SheetGraph, Area.
-use mathlib.Core.Bool.{Bool, true, false, _||_, not}
+-- Rests on base Checks, formats Limits and BoundedSheet, SheetGraph, Weigh.
+use mathlib.Core.Bool.{Bool, _||_}
 use mathlib.Core.List.{List, [], _∷_, _++_}
 use Prim.Native.Nat.{ℕ, zero, suc}
-use lib.Dec.{ltb, eqb}
+use lib.Dec.{ltb}
 use lib.ListN.{length, drop}
-use Rattle.base.specs.Lists.{isNone}
-use Rattle.base.specs.Checks.{Order, refused, over, outside}
-use Rattle.theory.specs.Completions.{lowOf}
+use Rattle.base.specs.Checks.{Order, refused, over}
 use Rattle.formats.specs.Limits.{mostCopies, mostBoundedEdges}
-use Rattle.formats.specs.GraphSheet.{header, sheetOrder}
 use Rattle.formats.specs.BoundedSheet.{Heading, heading}
-use Rattle.calls.specs.SheetGraph.{graph, boundedSheet}
-use Rattle.calls.specs.Area.{areaSize, filled}
-
--- 21: "work area (bytes) shorter than N × (B + 1)"
-unfoldable pub smallArea : List ℕ → List ℕ → Bool
-smallArea w area = ltb (length area) (areaSize w)
-
--- 9: "block 1 has no completion cost at or below B"
-unfoldable pub nothingFits : List ℕ → Bool
-nothingFits w = isNone (lowOf (graph w) 1 (header w .budget))
+use Rattle.calls.specs.SheetGraph.{boundedSheet}
+use Rattle.calls.specs.Weigh.{Weighing, weighOrder, areaAfter}
 
 -- 10: "C above 4,096 or F above 8,192"
 unfoldable pub tooMany : Heading → Bool
@@ -36,23 +25,14 @@ pub record Lent : Type 0 where
   pub area : List ℕ
   pub output : List ℕ
 
--- "1 to 8, 21, 9, 10, 22 for building"
+abbrev weighing : Lent → Weighing
+weighing i = record { sheet = i .sheet; area = i .area }
+
+-- "1 to 8, 21, 9, 10, 22 for building", of which weighing brings those up to 9
 unfoldable pub buildOrder : Order Lent
 buildOrder =
-    over (λ i. i .sheet) sheetOrder
-    ++ ((21, λ i. smallArea (i .sheet) (i .area))
-    ∷ (9, λ i. nothingFits (i .sheet))
-    ∷ (10, λ i. tooMany (heading (boundedSheet (i .sheet))))
-    ∷ (22, λ i. smallOutput (i .sheet) (i .output))
-    ∷ [])
-
--- "each number checked before 9"
-unfoldable pub beforeWeighing : ℕ → Bool
-beforeWeighing a = not (outside 1 8 a) || eqb a 21
-
--- the work area after a building or monitored call that answered a
-unfoldable pub areaAfter : List ℕ → ℕ → List ℕ → List ℕ
-areaAfter w a area = elim (beforeWeighing a) [ true ↦ area | false ↦ filled w area ]
+    over weighing weighOrder
+    ++ ((10, λ i. tooMany (heading (boundedSheet (i .sheet)))) ∷ (22, λ i. smallOutput (i .sheet) (i .output)) ∷ [])
 
 -- "An accepted build fills exactly its words"
 unfoldable pub outputAfter : List ℕ → ℕ → List ℕ → List ℕ

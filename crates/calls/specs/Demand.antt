@@ -1,5 +1,5 @@
 -- DEMAND 3: the promise about a whole list of choices (document 01, "The watch and the list of choices"), sentence by sentence.
--- Rests on theory Machines and Walks, formats BoundedSheet, SheetGraph, Area, Build, Moves.
+-- Rests on theory Machines and Walks, formats BoundedSheet, SheetGraph, Weigh, Build, Moves.
 use mathlib.Core.Path.{_≡_}
 use mathlib.Core.Logic.{_↔_}
 use mathlib.Core.List.{List, map}
@@ -10,7 +10,7 @@ use Rattle.theory.specs.Walks.{Walk, starting, monitor, Path}
 use Rattle.formats.specs.GraphSheet.{header}
 use Rattle.formats.specs.BoundedSheet.{heading, blockAt}
 use Rattle.calls.specs.SheetGraph.{graph, boundedSheet}
-use Rattle.calls.specs.Area.{areaSize}
+use Rattle.calls.specs.Weigh.{sheetArea}
 use Rattle.calls.specs.Build.{Lent, build}
 use Rattle.calls.specs.Moves.{Move, monitoredReply, boundedMove}
 
@@ -71,7 +71,7 @@ module _ (w t : List ℕ) (ms : List Move) where
     -- "If the walks are still going, some choice would be answered 0."
     pub monitor-onward : monitorEnd .end ≡ going → (k : ℕ) × (watch w monitorEnd k .answer ≡ 0)
     pub monitored-onward : monitoredEnd .end ≡ going
-        → (k : ℕ) × ((area : List ℕ) → areaSize w ≤ length area → monitoredReply w monitoredEnd (record { choice = k; area = area }) .answer ≡ 0)
+        → (k : ℕ) × ((area : List ℕ) → sheetArea w ≤ length area → monitoredReply w monitoredEnd (record { choice = k; area = area }) .answer ≡ 0)
     pub bounded-onward : boundedEnd .end ≡ going → (k : ℕ) × (boundedMove t boundedEnd k .answer ≡ 0)
     -- "A path .. runs unchanged when bounded moves answer 0 to each of its choices, show its blocks in order and end with exit. That is so
     -- exactly when its cost is at most B."

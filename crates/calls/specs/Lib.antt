@@ -3,7 +3,9 @@
 pub mod SheetGraph
 -- the work area's bytes
 pub mod Area
--- 21, 9, 10, 22, and what a build leaves
+-- 21 and 9, and what weighing leaves
+pub mod Weigh
+-- 10, 22, and what a build leaves
 pub mod Build
 -- 33, 32, 31, and what the moves leave
 pub mod Moves

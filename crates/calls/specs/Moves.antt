@@ -1,5 +1,5 @@
 -- THE MOVES as calls: a monitored move on a graph sheet and a bounded move on a bounded sheet (document 01, "Walks" and the tables of refusals).
--- Rests on base Checks, theory Machines and Walks, formats, SheetGraph, Build.
+-- Rests on base Checks, theory Machines and Walks, formats, SheetGraph, Weigh.
 use mathlib.Core.Bool.{Bool, _||_, not, Bool·beq}
 use mathlib.Core.List.{List, [], _∷_, _++_}
 use Prim.Native.Nat.{ℕ, zero, suc}
@@ -7,11 +7,11 @@ use lib.Dec.{ltb, eqb}
 use Rattle.base.specs.Checks.{Order, refused, over, outside}
 use Rattle.theory.specs.Machines.{Reply, reply}
 use Rattle.theory.specs.Walks.{Walk, isExit, mostMoves, monitor, Bounded, boundedWalk}
-use Rattle.formats.specs.GraphSheet.{header, sheetOrder}
+use Rattle.formats.specs.GraphSheet.{header}
 use Rattle.formats.specs.BoundedSheet.{heading}
 use Rattle.formats.specs.Rule11.{boundedOrder}
 use Rattle.calls.specs.SheetGraph.{graph, readBounded}
-use Rattle.calls.specs.Build.{smallArea, nothingFits, areaAfter}
+use Rattle.calls.specs.Weigh.{Weighing, weighOrder, areaAfter}
 
 -- 33: a walk on n places, with the exit's at x and a count of at most m, is "out of shape: place outside the sheet; end exit and place 2
 -- not together; .. count above .."
@@ -35,14 +35,13 @@ pub record MonitoredInput : Type 0 where
   pub area : List ℕ
   pub walk : Walk
 
--- "1 to 8, 21, 9, 33, 32, 31 for a watched move", of which the monitor's own reply brings the last two
+abbrev weighing : MonitoredInput → Weighing
+weighing i = record { sheet = i .sheet; area = i .area }
+
+-- "1 to 8, 21, 9, 33, 32, 31 for a watched move", of which weighing brings those up to 9 and the monitor's own reply the last two
 unfoldable pub monitoredOrder : Order MonitoredInput
 monitoredOrder =
-    over (λ i. i .sheet) sheetOrder
-    ++ ((21, λ i. smallArea (i .sheet) (i .area))
-    ∷ (9, λ i. nothingFits (i .sheet))
-    ∷ (33, λ i. outOfShape (header (i .sheet) .blocks) 2 (header (i .sheet) .budget) (i .walk))
-    ∷ [])
+    over weighing weighOrder ++ ((33, λ i. outOfShape (header (i .sheet) .blocks) 2 (header (i .sheet) .budget) (i .walk)) ∷ [])
 
 -- the answer and the walk
 unfoldable pub monitoredReply : List ℕ → Walk → Move → Reply Walk

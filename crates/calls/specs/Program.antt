@@ -1,5 +1,5 @@
 -- THE LISTING PROGRAM: from the bytes of a file to the bytes of its output (document 01, "Ribbon example and edges").
--- Rests on base Checks, formats File and Listing, SheetGraph, Build.
+-- Rests on base Checks, formats File and Listing, SheetGraph, Weigh, Build.
 use mathlib.Core.List.{List, [], _∷_, _++_}
 use Prim.Native.Nat.{ℕ, zero, suc}
 use Rattle.base.specs.Checks.{Order, refused, over}
@@ -8,7 +8,8 @@ use Rattle.formats.specs.BoundedSheet.{heading}
 use Rattle.formats.specs.File.{wordsOf, oddBytes}
 use Rattle.formats.specs.Listing.{listingOf, refusalOf}
 use Rattle.calls.specs.SheetGraph.{boundedSheet}
-use Rattle.calls.specs.Build.{nothingFits, tooMany}
+use Rattle.calls.specs.Weigh.{nothingFits}
+use Rattle.calls.specs.Build.{tooMany}
 
 -- "1: .. or an odd number of bytes in a file", then the build's numbers; the program's own buffers are never too short
 unfoldable pub fileOrder : Order (List ℕ)

@@ -1,19 +1,19 @@
 -- The order of the conditions in its two parts, and what the loops for 5 and 6 and for a missed edge look for.
 -- Rests on Orders, Search, graph_words Formed.
-use mathlib.Core.Path.{_≡_, refl}
-use mathlib.Core.Bool.{Bool, true, false, not}
+use mathlib.Core.Path.{_≡_, refl, _∙_}
+use mathlib.Core.Bool.{Bool, not}
 use mathlib.Core.List.{List, _++_}
 use Prim.Native.Nat.{ℕ}
 use Rattle.base.specs.Lists.{any, all, from}
 use Rattle.base.specs.Checks.{refused, outside}
-use Rattle.base.proofs.Orders.{unrefused}
-use Rattle.formats.specs.GraphSheet.{header, costWord, targetWord, short, badCounts, badLength, badBudget, costFits, badCosts, badTargets}
-use Rattle.formats.specs.GraphSheet.{sheetOrder, sheetRefusal}
+use Rattle.base.proofs.Orders.{unrefused, none-left}
+use Rattle.formats.specs.GraphSheet.{header, costWord, targetWord, short, badCounts, badLength, badBudget}
+use Rattle.formats.specs.GraphSheet.{costFits, badCosts, badTargets, badChains, exitChain, sheetOrder, sheetRefusal}
 use Rattle.graph_words.specs.Formed.{Formed}
 use Rattle.graph_words.proofs.Formed.{formed}
 use Rattle.graph_check.specs.Parts.{formOrder, recordOrder}
 use Rattle.graph_check.specs.Marks.{marked, missed}
-use Rattle.graph_check.proofs.Orders.{append-stops, append-passes}
+use Rattle.graph_check.proofs.Orders.{pick, tested, append-stops, append-passes}
 use Rattle.graph_check.proofs.Search.{not-all}
 
 module _ (w : List ℕ) where
@@ -22,9 +22,23 @@ module _ (w : List ℕ) where
   unfolding sheetRefusal sheetOrder formOrder recordOrder
   form-refuses n = append-stops formOrder recordOrder w n
 
-  pub form-passes : refused formOrder w ≡ 0 → sheetRefusal w ≡ refused recordOrder w
+  form-passes : refused formOrder w ≡ 0 → sheetRefusal w ≡ refused recordOrder w
   unfolding sheetRefusal sheetOrder formOrder recordOrder all
   form-passes e = append-passes formOrder recordOrder w refl e
+
+  -- each part's answer, by what its conditions say; behind one that holds they may say anything
+  pub form-answer : (a b c d : Bool) → short w ≡ a → badCounts w ≡ b → badLength w ≡ c → badBudget w ≡ d
+      → refused formOrder w ≡ pick a 1 (pick b 2 (pick c 3 (pick d 4 0)))
+  unfolding formOrder
+  form-answer a b c d p q r s =
+      tested 1 short _ w p (tested 2 badCounts _ w q (tested 3 badLength _ w r (tested 4 badBudget _ w s (none-left w))))
+
+  pub sheet-answer : (a b c d : Bool) → refused formOrder w ≡ 0 → badCosts w ≡ a → badTargets w ≡ b → badChains w ≡ c → exitChain w ≡ d
+      → sheetRefusal w ≡ pick a 5 (pick b 6 (pick c 7 (pick d 8 0)))
+  unfolding recordOrder
+  sheet-answer a b c d e p q r s =
+      form-passes e
+      ∙ tested 5 badCosts _ w p (tested 6 badTargets _ w q (tested 7 badChains _ w r (tested 8 exitChain _ w s (none-left w))))
 
   -- the first part passed
   pub form-formed : refused formOrder w ≡ 0 → Formed w

@@ -1,6 +1,6 @@
 -- The number of successors: chains that stay inside the sheet, and what a refused and an accepted call answer.
 -- Rests on Orders, Chains, formats Accepted.
-use mathlib.Core.Path.{_≡_, refl, sym, ap, _∙_}
+use mathlib.Core.Path.{_≡_, refl, sym, ap₂, _∙_}
 use mathlib.Core.Bool.{Bool, true, false}
 use mathlib.Core.List.{List, [], _∷_, _++_, List·Memᴰ, List·Memᴰ·head, List·Memᴰ·tail}
 use Prim.Native.Nat.{ℕ, zero, suc, _-_, _≤_, _<_}
@@ -8,6 +8,7 @@ use native.Mathlib.Omega.{arith}
 use Rattle.base.specs.Lists.{all}
 use Rattle.base.specs.Checks.{refused, over, outside}
 use Rattle.base.proofs.Orders.{none-left}
+use Rattle.formats.specs.Words.{chainLength}
 use Rattle.formats.specs.GraphSheet.{header, firstWord, nextWord, chain, successorCount, sheetOrder, sheetRefusal}
 use Rattle.formats.specs.GraphSheet.{BlockOf, countOrder, countSuccessors}
 use Rattle.formats.proofs.Accepted.{accepted, edge-inside}
@@ -30,9 +31,10 @@ module _ (w : List ℕ) where
     unfolding Inside
     inside-next q = rw q (λ y m. here y (List·Memᴰ·tail m))
 
-  pub chain-inside : (v : ℕ) → sheetRefusal w ≡ 0 → 1 ≤ v → v ≤ header w .blocks → Inside w (suc (header w .edges)) (firstWord (header w) w v)
+  pub chain-inside : {v k e : ℕ} → sheetRefusal w ≡ 0 → (1 ≤ v) × (v ≤ header w .blocks) → k ≡ suc (header w .edges)
+      → e ≡ firstWord (header w) w v → Inside w k e
   unfolding Inside chain
-  chain-inside v ok p q x m = edge-inside w (accepted w ok) v x p q m .1
+  chain-inside {v} ok l p q = rw (p, q) (λ x m. edge-inside w (accepted w ok) v x (l .0) (l .1) m .1)
 
   -- THE ANSWER
 
@@ -62,6 +64,9 @@ module _ (w : List ℕ) where
     pub block-refused : sheetRefusal w ≡ 0 → outside 1 (header w .blocks) v ≡ true → Answers 33 0
     block-refused ok q = refuses 33 (passes ok ∙ tested 33 _ [] i q (none-left i)) (λ z. omega arith)
 
-    pub counted : {n : ℕ} → sheetRefusal w ≡ 0 → outside 1 (header w .blocks) v ≡ false → n ≡ successorCount (header w) w v → Answers 0 n
-    unfolding countSuccessors
-    counted ok q e = rw (passes ok ∙ tested 33 _ [] i q (none-left i), countSuccessors) (refl, e)
+    pub counted : {n k e : ℕ} → sheetRefusal w ≡ 0 → outside 1 (header w .blocks) v ≡ false → k ≡ suc (header w .edges)
+        → e ≡ firstWord (header w) w v → n ≡ chainLength (nextWord (header w) w) k e → Answers 0 n
+    unfolding countSuccessors successorCount
+    counted ok q a b c =
+        rw (passes ok ∙ tested 33 _ [] i q (none-left i), countSuccessors)
+        (refl, c ∙ ap₂ (chainLength (nextWord (header w) w)) a b)

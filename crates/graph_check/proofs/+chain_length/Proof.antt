@@ -57,7 +57,7 @@ module _ (t : ℕ) where
       let next = nextWord (header (z .args .s .now)) (z .args .s .now) in
       let n : ℕ → ℕ = chainLength next (z .args .k - 1) in
       let p : c .chain-length .result ≡ n (next (z .args .e)) = c .chain-length .ensures .0 ∙ ap n (c .before .next-of .ensures .0) in
-      let q = length-more next _ _ (omega arith) (c .before .before .if2 .left) in
+      let q = length-more next (z .args .k) (z .args .e) (omega arith) (c .before .before .if2 .left) in
       (omega arith, omega arith)
 
 pub +chain-length-spec : {M : Type 1} → statement M

@@ -1,0 +1,51 @@
+-- WEIGHING as a call, the front of a build and of a monitored move: the answers 1 to 8, 21 and 9, and the work area after any answer.
+-- Rests on base Checks, theory Completions, formats GraphSheet, SheetGraph, Area.
+use mathlib.Core.Bool.{Bool, true, false, _||_, not}
+use mathlib.Core.List.{List, [], _∷_, _++_}
+use Prim.Native.Nat.{ℕ}
+use lib.Dec.{ltb, eqb}
+use lib.ListN.{length}
+use Rattle.base.specs.Lists.{isNone}
+use Rattle.base.specs.Checks.{Order, refused, over, outside}
+use Rattle.theory.specs.Completions.{lowOf}
+use Rattle.formats.specs.GraphSheet.{header, sheetOrder}
+use Rattle.calls.specs.SheetGraph.{graph}
+use Rattle.calls.specs.Area.{areaSize, filled}
+
+-- what is lent: a graph sheet and a work area
+pub record Weighing : Type 0 where
+  pub sheet : List ℕ
+  pub area : List ℕ
+
+-- the length that a sheet asks of its work area
+unfoldable pub sheetArea : List ℕ → ℕ
+sheetArea w = areaSize (header w .blocks) (header w .budget)
+
+-- 21: "work area (bytes) shorter than N × (B + 1)"
+unfoldable pub smallArea : Weighing → Bool
+smallArea i = ltb (length (i .area)) (sheetArea (i .sheet))
+
+-- 9: "block 1 has no completion cost at or below B"
+unfoldable pub nothingFits : List ℕ → Bool
+nothingFits w = isNone (lowOf (graph w) 1 (header w .budget))
+
+-- "1 to 8, 21, 9", with which both orders begin
+unfoldable pub weighOrder : Order Weighing
+weighOrder = over (λ i. i .sheet) sheetOrder ++ ((21, smallArea) ∷ (9, λ i. nothingFits (i .sheet)) ∷ [])
+
+-- "each number checked before 9"
+unfoldable pub beforeWeighing : ℕ → Bool
+beforeWeighing a = not (outside 1 8 a) || eqb a 21
+
+-- the work area after a building or monitored call that answered a
+unfoldable pub areaAfter : List ℕ → ℕ → List ℕ → List ℕ
+areaAfter w a area =
+    elim (beforeWeighing a) [ true ↦ area | false ↦ filled (graph w) (header w .blocks) (header w .budget) area ]
+
+-- THE CALL: the answer, and the content of the work area
+pub record Weighed : Type 0 where
+  pub answer : ℕ
+  pub area : List ℕ
+
+unfoldable pub weighed : Weighing → Weighed
+weighed i = let a = refused weighOrder i in record { answer = a; area = areaAfter (i .sheet) a (i .area) }
