@@ -13,9 +13,13 @@ use Rattle.formats.specs.BoundedSheet.{Row, sheetWords, heading, blockAt, targe
 unfoldable pub graph : List ℕ → Graph
 graph w = record { cost = costWord (header w) w; next = successors (header w) w }
 
--- its copies: those that are reached from the start copy of its budget
+-- its copies within some budgets, the largest of which is b: those that are reached from the budgets' start copies
+abbrev pub copiesWithin : List ℕ → List ℕ → ℕ → List Copy
+copiesWithin w bs b = copiesFrom (graph w) (header w .blocks) b (startCopies (graph w) bs)
+
+-- its copies within its own budget
 unfoldable pub sheetCopies : List ℕ → List Copy
-sheetCopies w = let b = header w .budget in copiesFrom (graph w) (header w .blocks) b (startCopies (graph w) (b ∷ []))
+sheetCopies w = let b = header w .budget in copiesWithin w (b ∷ []) b
 
 -- the row of a copy among the copies
 unfoldable pub rowOf : Graph → List Copy → Copy → Row

@@ -11,45 +11,45 @@ use Rattle.graph_check.proofs.check_graph.Statement.{statement}
 use Rattle.graph_check.proofs.check_graph.Tie as tie
 
 returns : tie.Need-returns
-returns c =
-    let w = c .before .before .before .args .s .now in
-    c .before .form-answer .ensures ∙ sym (form-refuses w (λ z. c .if1 .taken (c .before .form-answer .ensures ∙ z)))
+returns dd =
+    let w = dd .before .before .before .args .s .now in
+    dd .before .form-answer .ensures ∙ sym (form-refuses w (λ z. dd .if1 .taken (dd .before .form-answer .ensures ∙ z)))
 
 bad-costs-requires : tie.Need-bad-costs-requires
-bad-costs-requires c κs = form-formed _ (cc)
+bad-costs-requires dd κs = form-formed _ (cc)
 
 returns-2 : tie.Need-returns-2
-returns-2 c = sym (sheet-answer _ true _ _ _ (cc) (cc) refl refl refl)
+returns-2 dd = sym (sheet-answer _ true _ _ _ (cc) (cc) refl refl refl)
 
 bad-targets-requires : tie.Need-bad-targets-requires
-bad-targets-requires c κs = form-formed _ (cc)
+bad-targets-requires dd κs = form-formed _ (cc)
 
 returns-3 : tie.Need-returns-3
-returns-3 c = sym (sheet-answer _ false true _ _ (cc) (cc) (cc) refl refl)
+returns-3 dd = sym (sheet-answer _ false true _ _ (cc) (cc) (cc) refl refl)
 
 bad-chains-requires : tie.Need-bad-chains-requires
-bad-chains-requires c κs = form-formed _ (cc)
+bad-chains-requires dd κs = form-formed _ (cc)
 
 returns-4 : tie.Need-returns-4
-returns-4 c = sym (sheet-answer _ false false true _ (cc) (cc) (cc) (cc) refl)
+returns-4 dd = sym (sheet-answer _ false false true _ (cc) (cc) (cc) (cc) refl)
 
 first-of-requires : tie.Need-first-of-requires
-first-of-requires c κs = let f = form-formed (c .before .before .before .before .before .before .before .before .before .args .s .now) (cc) in (f, (omega arith, f .blocks .0))
+first-of-requires dd κs = let f = form-formed (dd .before .before .before .before .before .before .before .before .before .args .s .now) (cc) in (f, (omega arith, f .blocks .0))
 
 returns-5 : tie.Need-returns-5
 unfolding exitChain
-returns-5 c =
+returns-5 dd =
     sym (sheet-answer _ false false false true (cc) (cc) (cc) (cc)
-    (ap not (ne-eqb _ 0 (λ z. c .if5 .taken (c .before .first-of .ensures .0 ∙ z)))))
+    (ap not (ne-eqb _ 0 (λ z. dd .if5 .taken (dd .before .first-of .ensures .0 ∙ z)))))
 
 returns-6 : tie.Need-returns-6
 unfolding exitChain
-returns-6 c =
+returns-6 dd =
     sym (sheet-answer _ false false false false (cc) (cc) (cc) (cc)
-    (ap not (eq-eqb _ 0 (sym (c .before .first-of .ensures .0) ∙ c .if5 .left))))
+    (ap not (eq-eqb _ 0 (sym (dd .before .first-of .ensures .0) ∙ dd .if5 .left))))
 
 pub check-graph-spec : {M : Type 1} → statement M
 check-graph-spec =
     tie.close
-    (tie.spec (λ c κs. search needs) returns bad-costs-requires returns-2 bad-targets-requires returns-3 bad-chains-requires
+    (tie.spec (λ dd κs. search needs) returns bad-costs-requires returns-2 bad-targets-requires returns-3 bad-chains-requires
     returns-4 first-of-requires returns-5 returns-6)

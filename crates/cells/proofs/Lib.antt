@@ -1,0 +1,2 @@
+-- the cells of an area: cell-inside, one-cell
+pub mod Cells

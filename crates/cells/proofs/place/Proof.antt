@@ -1,0 +1,25 @@
+-- `cells::place` meets its contract.
+-- Rests on Cells.
+use native.Mathlib.Omega.{arith}
+use borrow.Author.Needs.{needs}
+use Rattle.cells.proofs.Cells.{line-small, cell-code}
+use Rattle.cells.proofs.place.Statement.{statement}
+use Rattle.cells.proofs.place.Tie as tie
+
+sub-result : tie.Need-sub-result
+sub-result c = search needs
+
+add-result : tie.Need-add-result
+add-result c = search needs
+
+mul-result : tie.Need-mul-result
+mul-result c = omega (arith, line-small (c .args .b) (c .args .v) (c .pre .budget) (c .pre .block .1))
+
+add-result-2 : tie.Need-add-result-2
+add-result-2 c = omega (arith, line-small (c .args .b) (c .args .v) (c .pre .budget) (c .pre .block .1))
+
+returns : tie.Need-returns
+returns c = cell-code _ _ _
+
+pub place-spec : {M : Type 1} → statement M
+place-spec = tie.close (tie.spec sub-result add-result mul-result add-result-2 returns)

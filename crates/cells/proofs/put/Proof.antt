@@ -1,0 +1,39 @@
+-- `cells::put` meets its contract, by its two ways.
+-- Rests on `place`.
+use mathlib.Core.Path.{sym, ap, ap₂}
+use mathlib.Core.Bool.{Bool}
+use Prim.Native.Nat.{ℕ}
+use borrow.Author.Needs.{needs}
+use lib.ListN.{set}
+use Rattle.calls.specs.Area.{byteOf}
+use Rattle.cells.proofs.put.Statement.{statement}
+use Rattle.cells.proofs.put.Tie as tie
+
+place-requires : tie.Need-place-requires
+place-requires c κs = search needs
+
+slice-write-area : tie.Need-slice-write-area
+slice-write-area c = search needs
+
+same-length : tie.Need-same-length
+same-length c = search needs
+
+returns : tie.Need-returns
+unfolding byteOf
+returns c =
+    ap₂ (λ (i : ℕ) (m : Bool). set (c .before .before .before .args .area .now) i (byteOf m)) (c .before .place .ensures) (sym (c .if1 .taken))
+
+slice-write-area-2 : tie.Need-slice-write-area-2
+slice-write-area-2 c = search needs
+
+same-length-2 : tie.Need-same-length-2
+same-length-2 c = search needs
+
+returns-2 : tie.Need-returns-2
+unfolding byteOf
+returns-2 c =
+    ap₂ (λ (i : ℕ) (m : Bool). set (c .before .before .before .args .area .now) i (byteOf m)) (c .before .place .ensures) (sym (c .if1 .left))
+
+pub put-spec : {M : Type 1} → statement M
+put-spec =
+    tie.close (tie.spec place-requires slice-write-area same-length returns slice-write-area-2 same-length-2 returns-2)
