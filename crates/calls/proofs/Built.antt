@@ -27,7 +27,7 @@ use Rattle.formats.proofs.Reading.{laid, counted}
 use Rattle.formats.proofs.RuleKept.{Fits, fits-rule}
 use Rattle.formats.proofs.WordsFit.{words-fit}
 use Rattle.calls.specs.SheetGraph.{graph, rowOf, rowsOf, sheetCopies, boundedSheet, readBounded}
-use Rattle.calls.proofs.SheetLaws.{well-formed, inside}
+use Rattle.calls.proofs.SheetLaws.{settingAt}
 use Rattle.calls.proofs.SettingRows.{row-at, lays-out, rises, apart, once, rows-fit}
 
 -- what an accepted build says of its graph sheet
@@ -43,18 +43,7 @@ module _ (w : List ℕ) (K : Buildable w) where
   A = accepted w (K .ok)
 
   abbrev pub setting : Setting
-  setting = record {
-    graph = graph w;
-    laws = well-formed w A;
-    blocks = header w .blocks;
-    inside = inside w A;
-    budgets = header w .budget ∷ [];
-    largest = header w .budget;
-    named = List·Memᴰ·head refl;
-    most = λ b m. omega (arith, List·Memᴰ·eq-of-singleton m);
-    start = K .start;
-    opens = K .opens;
-  }
+  setting = settingAt w A (header w .budget) (K .start) (K .opens)
 
   abbrev pub entry : Entry setting
   entry = record { budget = header w .budget; named = List·Memᴰ·head refl; low = K .start; fits = K .opens }

@@ -1,4 +1,4 @@
--- an accepted graph sheet has a well-formed graph: well-formed
+-- an accepted graph sheet has a well-formed graph: well-formed, settingAt
 pub mod SheetLaws
 -- a setting's rows, behind any header: lays-out, rows-fit
 pub mod SettingRows

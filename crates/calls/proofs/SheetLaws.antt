@@ -1,11 +1,13 @@
--- An accepted graph sheet has a well-formed graph.
+-- An accepted graph sheet has a well-formed graph, and so a setting for the theory at each budget that something fits.
 -- Rests on theory Setting, formats Accepted, SheetGraph.
-use mathlib.Core.Path.{_≡_, ap, subst, _∙_}
+use mathlib.Core.Path.{_≡_, refl, ap, subst, _∙_}
 use mathlib.Core.Logic.{_≢_}
-use mathlib.Core.List.{List, List·Memᴰ, List·Memᴰ·not-nil}
+use mathlib.Core.List.{List, [], _∷_, List·Memᴰ, List·Memᴰ·head, List·Memᴰ·not-nil, List·Memᴰ·eq-of-singleton}
+use mathlib.Core.Option.{some}
 use Prim.Native.Nat.{ℕ, _≤_}
 use native.Mathlib.Omega.{arith}
-use Rattle.theory.specs.Setting.{WellFormed}
+use Rattle.theory.specs.Completions.{lowOf}
+use Rattle.theory.specs.Setting.{WellFormed, Setting}
 use Rattle.formats.specs.GraphSheet.{header, successors}
 use Rattle.formats.proofs.Accepted.{Accepted, blocks, free, paid, source-inside, target-inside, no-successor}
 use Rattle.calls.specs.SheetGraph.{graph}
@@ -29,3 +31,18 @@ well-formed w A =
 pub inside : (w : List ℕ) → Accepted w → (v t : ℕ) → List·Memᴰ t (graph w .next v) → t ≤ header w .blocks
 unfolding graph
 inside w A v t m = target-inside w A v t m .1
+
+-- its setting at a budget that leaves block 1 a completion
+abbrev pub settingAt : (w : List ℕ) → Accepted w → (b a : ℕ) → lowOf (graph w) 1 b ≡ some a → Setting
+settingAt w A b a e = record {
+  graph = graph w;
+  laws = well-formed w A;
+  blocks = header w .blocks;
+  inside = inside w A;
+  budgets = b ∷ [];
+  largest = b;
+  named = List·Memᴰ·head refl;
+  most = λ c m. omega (arith, List·Memᴰ·eq-of-singleton m);
+  start = a;
+  opens = e;
+}

@@ -1,6 +1,6 @@
 -- The order of the conditions in its two parts, and what the loops for 5 and 6 and for a missed edge look for.
 -- Rests on Orders, Search, graph_words Formed.
-use mathlib.Core.Path.{_≡_, refl, _∙_}
+use mathlib.Core.Path.{_≡_, refl}
 use mathlib.Core.Bool.{Bool, not}
 use mathlib.Core.List.{List, _++_}
 use Prim.Native.Nat.{ℕ}
@@ -22,7 +22,7 @@ module _ (w : List ℕ) where
   unfolding sheetRefusal sheetOrder formOrder recordOrder
   form-refuses n = append-stops formOrder recordOrder w n
 
-  form-passes : refused formOrder w ≡ 0 → sheetRefusal w ≡ refused recordOrder w
+  pub form-passes : refused formOrder w ≡ 0 → sheetRefusal w ≡ refused recordOrder w
   unfolding sheetRefusal sheetOrder formOrder recordOrder all
   form-passes e = append-passes formOrder recordOrder w refl e
 
@@ -33,12 +33,11 @@ module _ (w : List ℕ) where
   form-answer a b c d p q r s =
       tested 1 short _ w p (tested 2 badCounts _ w q (tested 3 badLength _ w r (tested 4 badBudget _ w s (none-left w))))
 
-  pub sheet-answer : (a b c d : Bool) → refused formOrder w ≡ 0 → badCosts w ≡ a → badTargets w ≡ b → badChains w ≡ c → exitChain w ≡ d
-      → sheetRefusal w ≡ pick a 5 (pick b 6 (pick c 7 (pick d 8 0)))
+  pub record-answer : (a b c d : Bool) → badCosts w ≡ a → badTargets w ≡ b → badChains w ≡ c → exitChain w ≡ d
+      → refused recordOrder w ≡ pick a 5 (pick b 6 (pick c 7 (pick d 8 0)))
   unfolding recordOrder
-  sheet-answer a b c d e p q r s =
-      form-passes e
-      ∙ tested 5 badCosts _ w p (tested 6 badTargets _ w q (tested 7 badChains _ w r (tested 8 exitChain _ w s (none-left w))))
+  record-answer a b c d p q r s =
+      tested 5 badCosts _ w p (tested 6 badTargets _ w q (tested 7 badChains _ w r (tested 8 exitChain _ w s (none-left w))))
 
   -- the first part passed
   pub form-formed : refused formOrder w ≡ 0 → Formed w

@@ -36,6 +36,11 @@ module _ (w : List ℕ) where
   unfolding Inside chain
   chain-inside {v} ok l p q = rw (p, q) (λ x m. edge-inside w (accepted w ok) v x (l .0) (l .1) m .1)
 
+  pub chain-counted : {v k e n : ℕ} → k ≡ suc (header w .edges) → e ≡ firstWord (header w) w v
+      → n ≡ chainLength (nextWord (header w) w) k e → n ≡ successorCount (header w) w v
+  unfolding successorCount
+  chain-counted p q r = r ∙ ap₂ (chainLength (nextWord (header w) w)) p q
+
   -- THE ANSWER
 
   module _ (v : ℕ) where
@@ -64,9 +69,6 @@ module _ (w : List ℕ) where
     pub block-refused : sheetRefusal w ≡ 0 → outside 1 (header w .blocks) v ≡ true → Answers 33 0
     block-refused ok q = refuses 33 (passes ok ∙ tested 33 _ [] i q (none-left i)) (λ z. omega arith)
 
-    pub counted : {n k e : ℕ} → sheetRefusal w ≡ 0 → outside 1 (header w .blocks) v ≡ false → k ≡ suc (header w .edges)
-        → e ≡ firstWord (header w) w v → n ≡ chainLength (nextWord (header w) w) k e → Answers 0 n
-    unfolding countSuccessors successorCount
-    counted ok q a b c =
-        rw (passes ok ∙ tested 33 _ [] i q (none-left i), countSuccessors)
-        (refl, c ∙ ap₂ (chainLength (nextWord (header w) w)) a b)
+    pub counted : {n : ℕ} → sheetRefusal w ≡ 0 → outside 1 (header w .blocks) v ≡ false → n ≡ successorCount (header w) w v → Answers 0 n
+    unfolding countSuccessors
+    counted ok q e = rw (passes ok ∙ tested 33 _ [] i q (none-left i), countSuccessors) (refl, e)

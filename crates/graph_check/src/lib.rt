@@ -9,9 +9,9 @@ ghost use Rattle.base.specs.Checks.{refused, outside};
 ghost use Rattle.formats.specs.Limits.{mostEdges};
 ghost use Rattle.formats.specs.Words.{chainLength};
 ghost use Rattle.formats.specs.GraphSheet.{header, nextWord, badCounts, badLength, costFits, badCosts, badTargets, badChains};
-ghost use Rattle.formats.specs.GraphSheet.{sheetRefusal, countSuccessors};
+ghost use Rattle.formats.specs.GraphSheet.{sheetRefusal, successorCount, countSuccessors};
 ghost use Rattle.graph_words.specs.Formed.{Formed};
-ghost use Rattle.graph_check.specs.Parts.{formOrder};
+ghost use Rattle.graph_check.specs.Parts.{formOrder, recordOrder};
 ghost use Rattle.graph_check.specs.Marks.{Marking, missed};
 ghost use Rattle.graph_check.specs.Chains.{Inside};
 
@@ -175,14 +175,11 @@ fn bad_chains(s: &[u16]) -> bool
     misses(&seen, m)
 }
 
-// The first condition of 1 to 8 that holds, 0 where none does.
-pub fn check_graph(s: &[u16]) -> u16
-    ensures { λ r. ⌜ r ≡ sheetRefusal (now (s .entry)) ⌝ }
+// Conditions 5 to 8 of a sheet that has its form.
+fn record_answer(s: &[u16]) -> u16
+    requires { ⌜ Formed (now s) ⌝ }
+    ensures { λ r. ⌜ r ≡ refused recordOrder (now (s .entry)) ⌝ }
 {
-    let a = form_answer(s);
-    if a != 0 {
-        return a;
-    }
     if bad_costs(s) {
         return 5;
     }
@@ -196,6 +193,17 @@ pub fn check_graph(s: &[u16]) -> u16
         return 8;
     }
     0
+}
+
+// The first condition of 1 to 8 that holds, 0 where none does.
+pub fn check_graph(s: &[u16]) -> u16
+    ensures { λ r. ⌜ r ≡ sheetRefusal (now (s .entry)) ⌝ }
+{
+    let a = form_answer(s);
+    if a != 0 {
+        return a;
+    }
+    record_answer(s)
 }
 
 // The number of edges of a chain from e on: "zero if empty, else one more than the rest"; at most k.
@@ -215,7 +223,18 @@ fn chain_length(s: &[u16], e: usize, k: usize) -> usize
     1 + chain_length(s, next, k - 1)
 }
 
-// The answer of a call, and the number that it counts; 0 under a refusal.
+// The number of successors of block v in an accepted sheet.
+fn successor_count(s: &[u16], v: usize) -> usize
+    requires { ⌜ sheetRefusal (now s) ≡ 0 ⌝ }
+    requires { ⌜ (1 ≤ v) × (v ≤ header (now s) .blocks) ⌝ }
+    ensures { λ r. ⌜ (r ≡ successorCount (header (now (s .entry))) (now (s .entry)) v) × (r ≤ suc mostEdges) ⌝ }
+{
+    let m = edges(s);
+    let first = first_of(s, v);
+    chain_length(s, first, m + 1)
+}
+
+// The answer of a call, and the number that it counts: 0 under a refusal.
 pub struct Counted {
     pub answer: u16,
     pub count: u16,
@@ -234,8 +253,6 @@ pub fn count_successors(s: &[u16], v: u16) -> Counted
     if is_outside(1, n, b) {
         return Counted { answer: 33, count: 0 };
     }
-    let m = edges(s);
-    let first = first_of(s, b);
-    let count = chain_length(s, first, m + 1);
+    let count = successor_count(s, b);
     Counted { answer: 0, count: count as u16 }
 }
