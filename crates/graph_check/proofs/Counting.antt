@@ -36,10 +36,10 @@ module _ (w : List ℕ) where
   unfolding Inside chain
   chain-inside {v} ok l p q = rw (p, q) (λ x m. edge-inside w (accepted w ok) v x (l .0) (l .1) m .1)
 
-  pub chain-counted : {v k e n : ℕ} → k ≡ suc (header w .edges) → e ≡ firstWord (header w) w v
+  pub chain-counted : (v : ℕ) {k e n : ℕ} → k ≡ suc (header w .edges) → e ≡ firstWord (header w) w v
       → n ≡ chainLength (nextWord (header w) w) k e → n ≡ successorCount (header w) w v
   unfolding successorCount
-  chain-counted p q r = r ∙ ap₂ (chainLength (nextWord (header w) w)) p q
+  chain-counted v p q r = r ∙ ap₂ (chainLength (nextWord (header w) w)) p q
 
   -- THE ANSWER
 

@@ -19,3 +19,5 @@ pub mod Order
 pub mod Agreement
 -- no walk from an entry gets out of shape: monitor-kept, held-shape
 pub mod Shape
+-- a completion cost by the costs of the successors: at-exit, too-dear, by-next
+pub mod Step
