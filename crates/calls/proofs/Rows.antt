@@ -12,14 +12,14 @@ use Rattle.theory.specs.Completions.{within, completes, largest, lowOf}
 use Rattle.theory.specs.Copies.{copyFor, targets, add, join, spread, candidates, startCopies, copiesFrom, targetNumber}
 use Rattle.theory.specs.Machines.{taken, replyAt, reply, answers, final}
 use Rattle.theory.specs.Walks.{startAt, endAt, mostMoves, isExit, monitorTake, monitor, boundedTake, boundedWalk}
-use Rattle.formats.specs.Words.{follow, chainLength, unsound}
-use Rattle.formats.specs.GraphSheet.{header, costWord, firstWord, targetWord, nextWord, chain, met, successors, successorCount}
+use Rattle.formats.specs.Words.{follow, unsound}
+use Rattle.formats.specs.GraphSheet.{header, costWord, firstWord, targetWord, nextWord, chain, met, successors}
 use Rattle.formats.specs.GraphSheet.{short, badCounts, badLength, badBudget, costFits, badCosts, badTargets, badChains, exitChain}
-use Rattle.formats.specs.GraphSheet.{sheetOrder, sheetRefusal, countOrder, countSuccessors}
+use Rattle.formats.specs.GraphSheet.{sheetOrder, countOrder}
 use Rattle.formats.specs.BoundedSheet.{firstEdge, edgeRecords, copyWords, edgeWords, edgeCount, sheetWords}
-use Rattle.formats.specs.BoundedSheet.{heading, blockAt, lowAt, firstAt, targetAt, nextAt, copyAt, chainAt, targetsAt, edgePart}
+use Rattle.formats.specs.BoundedSheet.{heading, blockAt, lowAt, firstAt, targetAt, nextAt, copyAt, chainAt, targetsAt}
 use Rattle.formats.specs.Rule11.{tooShort, badLimits, wrongLength, largeBudget, badBlocks, badLows, badCopyOrder, copiesOf, notOneOf}
-use Rattle.formats.specs.Rule11.{badExit, badEdgeOrder, badTargetWords, boundedOrder, boundedRefusal, partOrder, handOut}
+use Rattle.formats.specs.Rule11.{badExit, badEdgeOrder, badTargetWords, boundedOrder, boundedRefusal, partOrder}
 use Rattle.formats.specs.File.{wordOf, wordsOf, oddBytes}
 use Rattle.formats.specs.Listing.{digits, decimal, line, headingLine, copyLine, listingOf, refusalOf}
 use Rattle.calls.specs.SheetGraph.{graph, sheetCopies, rowOf, rowsOf, boundedSheet, readBounded}
@@ -29,8 +29,9 @@ use Rattle.calls.specs.Build.{tooMany, smallOutput, buildOrder, outputAf
 use Rattle.calls.specs.Moves.{outOfShape, unless, monitoredOrder, monitoredReply, monitoredMove, boundedMoveOrder, boundedMove}
 use Rattle.calls.specs.Program.{fileOrder, listing}
 use Rattle.calls.specs.Cases.{Case, endNumber, sheetShown, outcome}
-use Rattle.calls.specs.Examples.{paper, loop, twice, least, inBytes, examples}
-use Rattle.calls.specs.Refusals.{nine, six, refusals}
+use Rattle.formats.specs.Samples.{paper, loop, twice, least, six, inBytes}
+use Rattle.calls.specs.Examples.{examples}
+use Rattle.calls.specs.Refusals.{refusals}
 
 -- the numbers of an order
 abbrev numbersOf : {I : Type 0} → Order I → List ℕ
@@ -56,16 +57,16 @@ unfolding examples paper loop twice least inBytes
 starred = refl
 
 pub pinned : Pinned refusals
-unfolding refusals nine six paper loop least inBytes
+unfolding refusals six loop least inBytes
     any all keep each chosen isNone from member distinct equal same before isIn numberFrom refused over outside
     within completes largest lowOf copyFor targets add join spread candidates startCopies copiesFrom targetNumber
     taken replyAt reply answers final startAt endAt mostMoves isExit monitorTake monitor boundedTake boundedWalk
-    follow chainLength unsound header costWord firstWord targetWord nextWord chain met successors successorCount
-    short badCounts badLength badBudget costFits badCosts badTargets badChains exitChain sheetOrder sheetRefusal countOrder countSuccessors
+    follow unsound header costWord firstWord targetWord nextWord chain met successors
+    short badCounts badLength badBudget costFits badCosts badTargets badChains exitChain sheetOrder
     firstEdge edgeRecords copyWords edgeWords edgeCount sheetWords
-    heading blockAt lowAt firstAt targetAt nextAt copyAt chainAt targetsAt edgePart
+    heading blockAt lowAt firstAt targetAt nextAt copyAt chainAt targetsAt
     tooShort badLimits wrongLength largeBudget badBlocks badLows badCopyOrder copiesOf notOneOf
-    badExit badEdgeOrder badTargetWords boundedOrder boundedRefusal partOrder handOut
+    badExit badEdgeOrder badTargetWords boundedOrder boundedRefusal
     wordOf wordsOf oddBytes digits decimal line headingLine copyLine listingOf refusalOf
     graph sheetCopies rowOf rowsOf boundedSheet readBounded marks byteOf bytes areaSize filled sheetArea
     smallArea nothingFits weighOrder beforeWeighing areaAfter tooMany smallOutput buildOrder outputAfter build

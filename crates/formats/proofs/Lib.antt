@@ -11,3 +11,5 @@ pub mod RuleRead
 pub mod WordsFit
 -- the edge words handed out are those of the copy's chain: handed-out
 pub mod Parts
+-- the rows of refusals: pinned
+pub mod Rows

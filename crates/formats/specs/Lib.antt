@@ -13,3 +13,7 @@ pub mod Rule11
 pub mod File
 -- a listing's text
 pub mod Listing
+-- sample sheets
+pub mod Samples
+-- rows that pin the conditions, rule 11, files and listings
+pub mod Refusals

@@ -56,6 +56,9 @@ module _ (w : List ℕ) where
   unfolding badCosts
   costs-are = not-all (λ v. costFits v (costWord (header w) w v)) (from 1 (header w .blocks))
 
+  pub misfit-is : (v : ℕ) {c : ℕ} {r b : Bool} → c ≡ costWord (header w) w v → r ≡ costFits v c → not r ≡ b → misfit v ≡ b
+  misfit-is v p q e = cc
+
   -- 6: an edge whose target is no block that may be entered
   abbrev pub stray : ℕ → Bool
   stray e = outside 2 (header w .blocks) (targetWord (header w) w e)
@@ -63,6 +66,10 @@ module _ (w : List ℕ) where
   pub targets-are : badTargets w ≡ any stray (from 1 (header w .edges))
   unfolding badTargets
   targets-are = refl
+
+  pub stray-is : (e : ℕ) {n t : ℕ} {r b : Bool} → n ≡ header w .blocks → t ≡ targetWord (header w) w e → r ≡ outside 2 n t → r ≡ b
+      → stray e ≡ b
+  stray-is e p q s x = cc
 
 -- 7: an edge that is not marked
 pub missed-are : (m : ℕ) (seen : List ℕ) → missed m seen ≡ any (λ e. not (marked seen e)) (from 1 m)

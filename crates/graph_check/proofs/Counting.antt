@@ -7,13 +7,13 @@ use Prim.Native.Nat.{ℕ, zero, suc, _-_, _≤_, _<_}
 use native.Mathlib.Omega.{arith}
 use Rattle.base.specs.Lists.{all}
 use Rattle.base.specs.Checks.{refused, over, outside}
-use Rattle.base.proofs.Orders.{none-left}
+use Rattle.base.proofs.Orders.{none-left, inside-of}
 use Rattle.formats.specs.Words.{chainLength}
 use Rattle.formats.specs.GraphSheet.{header, firstWord, nextWord, chain, successorCount, sheetOrder, sheetRefusal}
 use Rattle.formats.specs.GraphSheet.{BlockOf, countOrder, countSuccessors}
 use Rattle.formats.proofs.Accepted.{accepted, edge-inside}
 use Rattle.graph_check.specs.Chains.{edgesFrom, Inside}
-use Rattle.graph_check.proofs.Orders.{tested, append-stops, append-passes, over-is}
+use Rattle.graph_check.proofs.Orders.{pick, tested, append-stops, append-passes, over-is}
 use Rattle.graph_check.proofs.Chains.{follow-more}
 
 module _ (w : List ℕ) where
@@ -66,9 +66,21 @@ module _ (w : List ℕ) where
         let o = over-is (λ i. i .sheet) sheetOrder i ∙ sym q in
         refuses a (append-stops (over (λ i. i .sheet) sheetOrder) _ i (λ z. n (sym o ∙ z)) ∙ o) n
 
-    pub block-refused : sheetRefusal w ≡ 0 → outside 1 (header w .blocks) v ≡ true → Answers 33 0
-    block-refused ok q = refuses 33 (passes ok ∙ tested 33 _ [] i q (none-left i)) (λ z. omega arith)
+    -- the block is tested against the sheet's limit
+    module _ {n : ℕ} {r : Bool} (p : n ≡ header w .blocks) (q : r ≡ outside 1 n v) where
+      limit : {b : Bool} → r ≡ b → outside 1 (header w .blocks) v ≡ b
+      limit e = cc
 
-    pub counted : {n : ℕ} → sheetRefusal w ≡ 0 → outside 1 (header w .blocks) v ≡ false → n ≡ successorCount (header w) w v → Answers 0 n
-    unfolding countSuccessors
-    counted ok q e = rw (passes ok ∙ tested 33 _ [] i q (none-left i), countSuccessors) (refl, e)
+      pub block-inside : r ≡ false → (1 ≤ v) × (v ≤ header w .blocks)
+      block-inside e = inside-of 1 (header w .blocks) v (limit e)
+
+      module _ (ok : sheetRefusal w ≡ 0) where
+        answer : {b : Bool} → r ≡ b → refused countOrder i ≡ pick b 33 0
+        answer e = passes ok ∙ tested 33 _ [] i (limit e) (none-left i)
+
+        pub block-refused : r ≡ true → Answers 33 0
+        block-refused e = refuses 33 (answer e) (λ z. omega arith)
+
+        pub counted : {k : ℕ} → r ≡ false → k ≡ successorCount (header w) w v → Answers 0 k
+        unfolding countSuccessors
+        counted e s = rw (answer e, countSuccessors) (refl, s)

@@ -4,7 +4,7 @@ use Prim.Native.Nat.{ℕ, _+_, _-_}
 use borrow.Author.Needs.{needs}
 use Rattle.formats.specs.GraphSheet.{badCosts}
 use Rattle.graph_check.proofs.Search.{Search, begin, found, onward, none}
-use Rattle.graph_check.proofs.Conditions.{misfit, costs-are}
+use Rattle.graph_check.proofs.Conditions.{misfit, misfit-is, costs-are}
 use Rattle.graph_check.proofs.bad_costs.Statement.{statement}
 use Rattle.graph_check.proofs.bad_costs.Tie as tie
 
@@ -18,10 +18,14 @@ loop-holds : tie.Need-loop-holds Inv-loop μ-loop
 loop-holds c = begin (c .blocks2 .ensures .0) (costs-are _)
 
 returns : tie.Need-returns Inv-loop μ-loop
-returns c = found (c .before .before .before .before .loop .inv) (c .before .before .before .loop-test .taken) (cc)
+returns c =
+    found (c .before .before .before .before .loop .inv) (c .before .before .before .loop-test .taken)
+    (misfit-is _ _ (c .before .before .cost-of .ensures .0) (c .before .cost-fits .ensures) (c .if1 .taken))
 
 loop-again : tie.Need-loop-again Inv-loop μ-loop
-loop-again c = onward (c .before .before .before .before .loop .inv) (c .before .before .before .loop-test .taken) (cc)
+loop-again c =
+    onward (c .before .before .before .before .loop .inv) (c .before .before .before .loop-test .taken)
+    (misfit-is _ _ (c .before .before .cost-of .ensures .0) (c .before .cost-fits .ensures) (c .if1 .left))
 
 returns-2 : tie.Need-returns-2 Inv-loop μ-loop
 returns-2 c = none (c .before .loop .inv) (c .loop-test .left)

@@ -4,7 +4,7 @@ use Prim.Native.Nat.{ℕ, _+_, _-_}
 use borrow.Author.Needs.{needs}
 use Rattle.formats.specs.GraphSheet.{badTargets}
 use Rattle.graph_check.proofs.Search.{Search, begin, found, onward, none}
-use Rattle.graph_check.proofs.Conditions.{stray, targets-are}
+use Rattle.graph_check.proofs.Conditions.{stray, stray-is, targets-are}
 use Rattle.graph_check.proofs.bad_targets.Statement.{statement}
 use Rattle.graph_check.proofs.bad_targets.Tie as tie
 
@@ -18,10 +18,16 @@ loop-holds : tie.Need-loop-holds Inv-loop μ-loop
 loop-holds c = begin (c .edges .ensures .0) (targets-are _)
 
 returns : tie.Need-returns Inv-loop μ-loop
-returns c = found (c .before .before .before .before .loop .inv) (c .before .before .before .loop-test .taken) (cc)
+returns c =
+    let l = c .before .before .before .before in
+    found (l .loop .inv) (c .before .before .before .loop-test .taken)
+    (stray-is _ _ (l .before .before .blocks2 .ensures .0) (c .before .before .target-of .ensures .0) (c .before .is-outside .ensures) (c .if1 .taken))
 
 loop-again : tie.Need-loop-again Inv-loop μ-loop
-loop-again c = onward (c .before .before .before .before .loop .inv) (c .before .before .before .loop-test .taken) (cc)
+loop-again c =
+    let l = c .before .before .before .before in
+    onward (l .loop .inv) (c .before .before .before .loop-test .taken)
+    (stray-is _ _ (l .before .before .blocks2 .ensures .0) (c .before .before .target-of .ensures .0) (c .before .is-outside .ensures) (c .if1 .left))
 
 returns-2 : tie.Need-returns-2 Inv-loop μ-loop
 returns-2 c = none (c .before .loop .inv) (c .loop-test .left)

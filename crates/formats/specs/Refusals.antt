@@ -1,0 +1,148 @@
+-- The formats' own refusals, pinned by rows of one list: each number, each limit at and one past it, neighbours in the order with both faults.
+-- Rests on GraphSheet, Rule11, File, Listing, Samples.
+use mathlib.Core.List.{List, [], _∷_}
+use Prim.Native.Nat.{ℕ}
+use lib.ListN.{set}
+use Rattle.formats.specs.GraphSheet.{sheetRefusal, Counted, countSuccessors}
+use Rattle.formats.specs.Rule11.{boundedRefusal, Part, handOut}
+use Rattle.formats.specs.File.{wordsOf}
+use Rattle.formats.specs.Listing.{decimal, listingOf}
+use Rattle.formats.specs.Samples.{paper, least, nine, inBytes}
+
+-- one input of one call
+pub data Case : Type 0 where
+  -- the conditions 1 to 8 on a graph sheet
+  graphOf : List ℕ → Case
+  -- the number of successors of a block
+  countOf : List ℕ → ℕ → Case
+  -- rule 11 on a bounded sheet
+  boundedOf : List ℕ → Case
+  -- the edge words handed out for a copy
+  partOf : List ℕ → ℕ → Case
+  -- a file's bytes as words
+  fileOf : List ℕ → Case
+  -- a number in decimal
+  decimalOf : ℕ → Case
+  -- a bounded sheet's listing
+  textOf : List ℕ → Case
+
+-- what the definitions make of it, as a row of numbers
+unfoldable pub outcome : Case → List ℕ
+outcome (graphOf w) = sheetRefusal w ∷ []
+outcome (countOf w v) = let r = countSuccessors w v in r .answer ∷ r .count ∷ []
+outcome (boundedOf t) = boundedRefusal t ∷ []
+outcome (partOf t i) = let r = handOut t i in r .answer ∷ r .words
+outcome (fileOf bs) = wordsOf bs
+outcome (decimalOf n) = decimal n
+outcome (textOf t) = listingOf t
+
+unfoldable pub refusals : List (Case × List ℕ)
+refusals =
+    -- 1: fewer than 3 words, also where N and E are outside their limits
+    (graphOf [], 1 ∷ [])
+    ∷ (graphOf (129 ∷ []), 1 ∷ [])
+    ∷ (graphOf (2 ∷ 513 ∷ []), 1 ∷ [])
+    -- 2: N at and past its limits (a row at a limit goes on to 3), E at and past its limits, also where the length is wrong
+    ∷ (graphOf (1 ∷ 1 ∷ 0 ∷ []), 2 ∷ [])
+    ∷ (graphOf (2 ∷ 1 ∷ 0 ∷ []), 3 ∷ [])
+    ∷ (graphOf (128 ∷ 1 ∷ 0 ∷ []), 3 ∷ [])
+    ∷ (graphOf (129 ∷ 1 ∷ 0 ∷ []), 2 ∷ [])
+    ∷ (graphOf (2 ∷ 0 ∷ 0 ∷ []), 2 ∷ [])
+    ∷ (graphOf (2 ∷ 512 ∷ 0 ∷ []), 3 ∷ [])
+    ∷ (graphOf (2 ∷ 513 ∷ 0 ∷ []), 2 ∷ [])
+    -- 3: one word less, one word more, also where B is above 500
+    ∷ (graphOf (2 ∷ 1 ∷ 0 ∷ 0 ∷ 1 ∷ 0 ∷ 0 ∷ 2 ∷ []), 3 ∷ [])
+    ∷ (graphOf (2 ∷ 1 ∷ 0 ∷ 0 ∷ 1 ∷ 0 ∷ 0 ∷ 2 ∷ 0 ∷ 0 ∷ []), 3 ∷ [])
+    ∷ (graphOf (2 ∷ 1 ∷ 501 ∷ 0 ∷ 1 ∷ 0 ∷ 0 ∷ 2 ∷ []), 3 ∷ [])
+    -- 4: B at and past its limit, also where block 1 has a cost
+    ∷ (graphOf (2 ∷ 1 ∷ 500 ∷ 0 ∷ 1 ∷ 0 ∷ 0 ∷ 2 ∷ 0 ∷ []), 0 ∷ [])
+    ∷ (graphOf (2 ∷ 1 ∷ 501 ∷ 0 ∷ 1 ∷ 0 ∷ 0 ∷ 2 ∷ 0 ∷ []), 4 ∷ [])
+    ∷ (graphOf (2 ∷ 1 ∷ 501 ∷ 1 ∷ 1 ∷ 0 ∷ 0 ∷ 2 ∷ 0 ∷ []), 4 ∷ [])
+    -- 5: block 1 with a cost, block 2 with one, block 3 without and with the largest, also where a target is 1
+    ∷ (graphOf (2 ∷ 1 ∷ 0 ∷ 1 ∷ 1 ∷ 0 ∷ 0 ∷ 2 ∷ 0 ∷ []), 5 ∷ [])
+    ∷ (graphOf (2 ∷ 1 ∷ 0 ∷ 0 ∷ 1 ∷ 1 ∷ 0 ∷ 2 ∷ 0 ∷ []), 5 ∷ [])
+    ∷ (graphOf (3 ∷ 2 ∷ 9 ∷ 0 ∷ 1 ∷ 0 ∷ 0 ∷ 0 ∷ 2 ∷ 3 ∷ 0 ∷ 2 ∷ 0 ∷ []), 5 ∷ [])
+    ∷ (graphOf (3 ∷ 2 ∷ 9 ∷ 0 ∷ 1 ∷ 0 ∷ 0 ∷ 65535 ∷ 2 ∷ 3 ∷ 0 ∷ 2 ∷ 0 ∷ []), 0 ∷ [])
+    ∷ (graphOf (3 ∷ 2 ∷ 9 ∷ 0 ∷ 1 ∷ 0 ∷ 0 ∷ 0 ∷ 2 ∷ 1 ∷ 0 ∷ 2 ∷ 0 ∷ []), 5 ∷ [])
+    -- 6: a target that is 0, 1, N or above N, in a chain or not, also where a chain does not end
+    ∷ (graphOf (2 ∷ 1 ∷ 0 ∷ 0 ∷ 1 ∷ 0 ∷ 0 ∷ 0 ∷ 0 ∷ []), 6 ∷ [])
+    ∷ (graphOf (2 ∷ 1 ∷ 0 ∷ 0 ∷ 1 ∷ 0 ∷ 0 ∷ 1 ∷ 0 ∷ []), 6 ∷ [])
+    ∷ (graphOf (2 ∷ 1 ∷ 0 ∷ 0 ∷ 1 ∷ 0 ∷ 0 ∷ 3 ∷ 0 ∷ []), 6 ∷ [])
+    ∷ (graphOf (3 ∷ 2 ∷ 9 ∷ 0 ∷ 1 ∷ 0 ∷ 0 ∷ 1 ∷ 2 ∷ 3 ∷ 0 ∷ 2 ∷ 0 ∷ []), 0 ∷ [])
+    ∷ (graphOf (2 ∷ 2 ∷ 0 ∷ 0 ∷ 1 ∷ 0 ∷ 0 ∷ 2 ∷ 0 ∷ 1 ∷ 0 ∷ []), 6 ∷ [])
+    ∷ (graphOf (2 ∷ 1 ∷ 0 ∷ 0 ∷ 1 ∷ 0 ∷ 0 ∷ 1 ∷ 1 ∷ []), 6 ∷ [])
+    -- 7: an edge number above E as first and as next, an edge whose next is itself, a longer loop, an edge of two blocks, a missed edge
+    ∷ (graphOf (2 ∷ 1 ∷ 0 ∷ 0 ∷ 2 ∷ 0 ∷ 0 ∷ 2 ∷ 0 ∷ []), 7 ∷ [])
+    ∷ (graphOf (2 ∷ 1 ∷ 0 ∷ 0 ∷ 1 ∷ 0 ∷ 0 ∷ 2 ∷ 2 ∷ []), 7 ∷ [])
+    ∷ (graphOf (2 ∷ 1 ∷ 0 ∷ 0 ∷ 1 ∷ 0 ∷ 0 ∷ 2 ∷ 1 ∷ []), 7 ∷ [])
+    ∷ (graphOf (2 ∷ 2 ∷ 0 ∷ 0 ∷ 1 ∷ 0 ∷ 0 ∷ 2 ∷ 2 ∷ 2 ∷ 1 ∷ []), 7 ∷ [])
+    ∷ (graphOf (3 ∷ 1 ∷ 9 ∷ 0 ∷ 1 ∷ 0 ∷ 0 ∷ 1 ∷ 1 ∷ 2 ∷ 0 ∷ []), 7 ∷ [])
+    ∷ (graphOf (2 ∷ 1 ∷ 0 ∷ 0 ∷ 0 ∷ 0 ∷ 0 ∷ 2 ∷ 0 ∷ []), 7 ∷ [])
+    ∷ (graphOf (2 ∷ 2 ∷ 0 ∷ 0 ∷ 1 ∷ 0 ∷ 0 ∷ 2 ∷ 0 ∷ 2 ∷ 0 ∷ []), 7 ∷ [])
+    -- 7 before 8: an unsound chain of the exit; 8: a sound one
+    ∷ (graphOf (2 ∷ 1 ∷ 0 ∷ 0 ∷ 0 ∷ 0 ∷ 1 ∷ 2 ∷ 1 ∷ []), 7 ∷ [])
+    ∷ (graphOf (2 ∷ 1 ∷ 0 ∷ 0 ∷ 0 ∷ 0 ∷ 1 ∷ 2 ∷ 0 ∷ []), 8 ∷ [])
+    ∷ (graphOf (2 ∷ 1 ∷ 0 ∷ 0 ∷ 1 ∷ 0 ∷ 0 ∷ 2 ∷ 0 ∷ []), 0 ∷ [])
+    -- the number of successors; the sheet's own numbers come before 33
+    ∷ (countOf (paper 9) 1, 0 ∷ 1 ∷ [])
+    ∷ (countOf (paper 9) 2, 0 ∷ 0 ∷ [])
+    ∷ (countOf (paper 9) 3, 0 ∷ 2 ∷ [])
+    ∷ (countOf (paper 9) 6, 0 ∷ 2 ∷ [])
+    ∷ (countOf (paper 9) 8, 0 ∷ 1 ∷ [])
+    ∷ (countOf (paper 9) 0, 33 ∷ 0 ∷ [])
+    ∷ (countOf (paper 9) 9, 33 ∷ 0 ∷ [])
+    ∷ (countOf (2 ∷ 1 ∷ 0 ∷ 0 ∷ 0 ∷ 0 ∷ 1 ∷ 2 ∷ 0 ∷ []) 0, 8 ∷ 0 ∷ [])
+    -- rule 11: a built sheet, then each clause broken alone or first, at and past each limit
+    ∷ (boundedOf (2 ∷ 1 ∷ []), 11 ∷ [])
+    ∷ (boundedOf (9 ∷ 11 ∷ 9 ∷ 1 ∷ 9 ∷ 1 ∷ 2 ∷ 0 ∷ 0 ∷ 3 ∷ 9 ∷ 2 ∷ 4 ∷ 7 ∷ 4 ∷ 5 ∷ 6 ∷ 5 ∷ 6 ∷ 2 ∷ 6 ∷ 6 ∷ 6 ∷ 8 ∷ 7 ∷ 1 ∷ 10 ∷ 8 ∷ 5 ∷ 11 ∷ 3 ∷ 0 ∷ 4 ∷ 3
+        ∷ 5 ∷ 0 ∷ 7 ∷ 0 ∷ 6 ∷ 0 ∷ 8 ∷ 7 ∷ 0 ∷ 0 ∷ 8 ∷ 9 ∷ 9 ∷ 0 ∷ 2 ∷ 0 ∷ 2 ∷ 0 ∷ []),
+        0 ∷ [])
+    ∷ (boundedOf (set nine 0 1), 11 ∷ [])
+    ∷ (boundedOf (set nine 1 0), 11 ∷ [])
+    ∷ (boundedOf (set nine 0 8), 11 ∷ [])
+    ∷ (boundedOf (set nine 2 501), 11 ∷ [])
+    ∷ (boundedOf (set nine 27 129), 11 ∷ [])
+    ∷ (boundedOf (set nine 28 10), 11 ∷ [])
+    ∷ (boundedOf (set nine 19 6), 11 ∷ [])
+    ∷ (boundedOf (set nine 3 2), 11 ∷ [])
+    ∷ (boundedOf (set nine 6 3), 11 ∷ [])
+    ∷ (boundedOf (set nine 7 1), 11 ∷ [])
+    ∷ (boundedOf (set nine 8 2), 11 ∷ [])
+    ∷ (boundedOf (set nine 31 2), 11 ∷ [])
+    ∷ (boundedOf (set nine 33 0), 11 ∷ [])
+    ∷ (boundedOf (set nine 11 3), 11 ∷ [])
+    ∷ (boundedOf (set nine 30 1), 11 ∷ [])
+    ∷ (boundedOf (set nine 30 10), 11 ∷ [])
+    ∷ (boundedOf (set nine 2 500), 0 ∷ [])
+    ∷ (boundedOf (set nine 27 128), 0 ∷ [])
+    ∷ (boundedOf (set nine 28 9), 0 ∷ [])
+    ∷ (boundedOf (set nine 30 0), 0 ∷ [])
+    ∷ (boundedOf (set nine 30 2), 0 ∷ [])
+    ∷ (boundedOf (set nine 30 9), 0 ∷ [])
+    ∷ (boundedOf (2 ∷ 1 ∷ 0 ∷ 1 ∷ 0 ∷ 1 ∷ 2 ∷ 0 ∷ 0 ∷ 2 ∷ 0 ∷ []), 0 ∷ [])
+    ∷ (boundedOf (2 ∷ 1 ∷ 0 ∷ 1 ∷ 0 ∷ 1 ∷ 2 ∷ 0 ∷ 0 ∷ 2 ∷ 0 ∷ 0 ∷ []), 11 ∷ [])
+    ∷ (boundedOf (2 ∷ 1 ∷ 0 ∷ 1 ∷ 0 ∷ 1 ∷ 2 ∷ 0 ∷ 0 ∷ 2 ∷ []), 11 ∷ [])
+    -- the edge words of a copy: of the start, of a copy with two, of the exit; 33 outside; 11 before 33
+    ∷ (partOf nine 1, 0 ∷ 3 ∷ 0 ∷ [])
+    ∷ (partOf nine 7, 0 ∷ 8 ∷ 9 ∷ 9 ∷ 0 ∷ [])
+    ∷ (partOf nine 2, 0 ∷ [])
+    ∷ (partOf nine 9, 0 ∷ 2 ∷ 0 ∷ [])
+    ∷ (partOf nine 0, 33 ∷ [])
+    ∷ (partOf nine 10, 33 ∷ [])
+    ∷ (partOf (2 ∷ []) 0, 11 ∷ [])
+    -- a file's words, the lower byte first; an odd last byte is no word
+    ∷ (fileOf (inBytes (65535 ∷ 256 ∷ 1 ∷ [])), 65535 ∷ 256 ∷ 1 ∷ [])
+    ∷ (fileOf (2 ∷ 0 ∷ 7 ∷ []), 2 ∷ [])
+    ∷ (fileOf [], [])
+    -- decimal digits
+    ∷ (decimalOf 0, 48 ∷ [])
+    ∷ (decimalOf 9, 57 ∷ [])
+    ∷ (decimalOf 10, 49 ∷ 48 ∷ [])
+    ∷ (decimalOf 65535, 54 ∷ 53 ∷ 53 ∷ 51 ∷ 53 ∷ [])
+    -- the listing of the shortest bounded sheet: `copies 2 edges 1 budget 0`, `1 1 0 2`, `2 2 0`
+    ∷ (textOf (2 ∷ 1 ∷ 0 ∷ 1 ∷ 0 ∷ 1 ∷ 2 ∷ 0 ∷ 0 ∷ 2 ∷ 0 ∷ []),
+        99 ∷ 111 ∷ 112 ∷ 105 ∷ 101 ∷ 115 ∷ 32 ∷ 50 ∷ 32 ∷ 101 ∷ 100 ∷ 103 ∷ 101 ∷ 115 ∷ 32 ∷ 49
+        ∷ 32 ∷ 98 ∷ 117 ∷ 100 ∷ 103 ∷ 101 ∷ 116 ∷ 32 ∷ 48 ∷ 10
+        ∷ 49 ∷ 32 ∷ 49 ∷ 32 ∷ 48 ∷ 32 ∷ 50 ∷ 10
+        ∷ 50 ∷ 32 ∷ 50 ∷ 32 ∷ 48 ∷ 10 ∷ [])
+    ∷ []

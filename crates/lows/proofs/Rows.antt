@@ -1,0 +1,137 @@
+-- The row of a block by rising numbers of cycles, and the rows block by block.
+-- Rests on theory Completions, calls Area, specs Rows, Stored.
+use mathlib.Core.Path.{_≡_, refl, sym, ap, subst, _∙_}
+use mathlib.Core.Bool.{Bool, true, false}
+use mathlib.Core.List.{List}
+use mathlib.Core.Option.{Option, some, none}
+use Prim.Native.Nat.{ℕ, zero, suc, _+_, _≤_, _<_}
+use native.Mathlib.Omega.{arith}
+use native.Mathlib.Decide.{ℕ-discrete}
+use native.Mathlib.Nat.{mul-le-mul-right}
+use lib.ListN.{length, getD, set, length-set}
+use Rattle.theory.specs.Completions.{Graph, completes, largest, lowOf}
+use Rattle.calls.specs.Area.{cellOf, areaSize, stands, Table}
+use Rattle.theory.proofs.Completions.{largest-self}
+use Rattle.cells.proofs.Cells.{cell-inside}
+use Rattle.tables.specs.Tables.{optionOf, Lows}
+use Rattle.lows.specs.Rows.{latest, Filled, RowFilled}
+use Rattle.lows.proofs.Stored.{stored, others-kept}
+
+-- the largest number below r that passes a test
+unfoldable pub under : (ℕ → Bool) → ℕ → Option ℕ
+under f zero = none
+under f (suc r) = largest f r
+
+largest-miss : (f : ℕ → Bool) (r : ℕ) → f r ≡ false → largest f r ≡ under f r
+unfolding under largest
+largest-miss f zero p = rw (p, largest)
+largest-miss f (suc r) p = rw (p, largest)
+
+-- one number more
+latest-is : (f : ℕ → Bool) (last r : ℕ) (h : Bool) → f r ≡ h → optionOf last ≡ under f r → optionOf (latest last r h) ≡ largest f r
+unfolding latest optionOf
+latest-is f last r true p e = sym (largest-self f r p)
+latest-is f last r false p e = e ∙ sym (largest-miss f r p)
+
+-- tests that agree up to r
+largest-agree : (f h : ℕ → Bool) (r : ℕ) → ((c : ℕ) → c ≤ r → f c ≡ h c) → largest f r ≡ largest h r
+unfolding largest
+largest-agree f h zero e = rw (e zero (omega arith), largest)
+largest-agree f h (suc r) e = go (h (suc r)) refl (largest-agree f h r (λ c l. e c (omega arith)))
+  where
+    go : (x : Bool) → h (suc r) ≡ x → largest f r ≡ largest h r → largest f (suc r) ≡ largest h (suc r)
+    go true p q = rw (e (suc r) (omega arith) ∙ p, p, largest)
+    go false p q = rw (e (suc r) (omega arith) ∙ p, p, largest) q
+
+latest-small : (last r : ℕ) (h : Bool) → last ≤ r → latest last r h ≤ suc r
+unfolding latest
+latest-small last r true l = omega arith
+latest-small last r false l = omega arith
+
+-- ONE BLOCK: the entries below r are filled
+pub record Filling (area : List ℕ) (b v : ℕ) (lows₀ lows : List ℕ) (last r : ℕ) : Type 0 where
+  pub size : length lows ≡ length lows₀
+  pub range : (r ≤ suc b) × (last ≤ r)
+  pub ends : optionOf last ≡ under (stands b area v) r
+  pub below : (d : ℕ) → d < r → optionOf (getD lows (cellOf b v d) 0) ≡ largest (stands b area v) d
+  pub kept : (u d : ℕ) → 1 ≤ u → (u ≡ v → ⊥) → d ≤ b → getD lows (cellOf b u d) 0 ≡ getD lows₀ (cellOf b u d) 0
+
+module _ {area : List ℕ} {b v : ℕ} where
+  pub row-start : (lows : List ℕ) → Filling area b v lows lows 0 0
+  unfolding under optionOf
+  row-start lows = record {
+    size = refl;
+    range = omega arith;
+    ends = refl;
+    below = λ d l. absurd (omega arith);
+    kept = λ u d p n i. refl;
+  }
+
+  module _ {lows₀ lows : List ℕ} {last r : ℕ} (F : Filling area b v lows₀ lows last r) where
+    pub row-on : 1 ≤ v → r ≤ b → areaSize v b ≤ length lows₀ → {hit : Bool} {x : ℕ} {lows′ : List ℕ} → hit ≡ stands b area v r
+        → x ≡ latest last r hit → lows′ ≡ set lows (cellOf b v r) x → (q : ℕ) → q ≡ suc r → Filling area b v lows₀ lows′ x q
+    unfolding under
+    row-on p l room {hit} {x} {lows′} h i e q j =
+        subst (Filling area b v lows₀ lows′ x) (sym j) (record {
+          size = ap length e ∙ length-set lows (cellOf b v r) x ∙ F .size;
+          range = (omega arith, omega (arith, latest-small last r hit (F .range .1)));
+          ends = now;
+          below = λ d k. go d k (ℕ-discrete d r);
+          kept = λ u d a n m. others-kept b v r x lows lows′ e u d a p m l (λ k. n (k .0)) ∙ F .kept u d a n m;
+        })
+      where
+        now : optionOf x ≡ largest (stands b area v) r
+        now = ap optionOf i ∙ latest-is (stands b area v) last r hit (sym h) (F .ends)
+
+        inside : cellOf b v r < length lows
+        inside = omega (arith, cell-inside b v v r p (omega arith) l, F .size)
+
+        go : (d : ℕ) → d < suc r → Dec (d ≡ r) → optionOf (getD lows′ (cellOf b v d) 0) ≡ largest (stands b area v) d
+        go d k (yes z) =
+            subst (λ (y : ℕ). optionOf (getD lows′ (cellOf b v y) 0) ≡ largest (stands b area v) y) (sym z)
+            (ap optionOf (stored b v r x lows lows′ e inside) ∙ now)
+        go d k (no z) =
+            ap optionOf (others-kept b v r x lows lows′ e v d p p (omega arith) l (λ m. z (m .1))) ∙ F .below d (omega arith)
+
+    pub row-end : b < r → RowFilled area b v lows₀ lows
+    unfolding Filled
+    row-end l = record {
+      size = F .size;
+      row = λ d k. F .below d (omega arith);
+      kept = λ u p n f d k. ap optionOf (F .kept u d p n k) ∙ f d k;
+    }
+
+-- ALL BLOCKS: the rows of the blocks below v are filled
+pub record AllFilled (area : List ℕ) (n b : ℕ) (lows₀ lows : List ℕ) (v : ℕ) : Type 0 where
+  pub size : length lows ≡ length lows₀
+  pub range : (1 ≤ v) × (v ≤ suc n)
+  pub rows : (u : ℕ) → 1 ≤ u → u < v → Filled area b u lows
+
+-- a row is as long as the rows of all blocks allow
+pub row-fits : (n b v k : ℕ) → v ≤ n → areaSize n b ≤ k → areaSize v b ≤ k
+unfolding areaSize
+row-fits n b v k l h = omega (arith, mul-le-mul-right {m = v} {n = n} (suc b) l)
+
+module _ {area : List ℕ} {n b : ℕ} where
+  pub rows-start : (lows : List ℕ) → AllFilled area n b lows lows 1
+  rows-start lows = record { size = refl; range = omega arith; rows = λ u p l. absurd (omega arith) }
+
+  module _ {lows₀ lows : List ℕ} {v : ℕ} (A : AllFilled area n b lows₀ lows v) where
+    pub rows-on : {lows′ : List ℕ} → RowFilled area b v lows lows′ → v ≤ n → (q : ℕ) → q ≡ suc v → AllFilled area n b lows₀ lows′ q
+    rows-on {lows′} f l q j = record {
+      size = f .size ∙ A .size;
+      range = omega (arith, A .range);
+      rows = λ u p k. go u p (omega arith) (ℕ-discrete u v);
+    }
+      where
+        go : (u : ℕ) → 1 ≤ u → u ≤ v → Dec (u ≡ v) → Filled area b u lows′
+        go u p k (yes z) = subst (λ (y : ℕ). Filled area b y lows′) (sym z) (f .row)
+        go u p k (no z) = f .kept u p z (A .rows u p (omega arith))
+
+    -- the rows are the look-up, where the area stands for the completion costs
+    pub rows-end : (g : Graph) → Table g n b area → areaSize n b ≤ length lows₀ → n < v → Lows g n b lows
+    unfolding Filled lowOf
+    rows-end g T room l = record {
+      room = omega (arith, A .size);
+      cells = λ u r p q k. A .rows u p (omega arith) r k ∙ largest-agree _ _ r (λ c i. T .cells u c p q (omega arith));
+    }
