@@ -9,7 +9,7 @@ use native.Mathlib.Omega.{arith}
 use borrow.Author.Tests.{eq-eqb, ne-eqb, eqb-true, not-false, not-true}
 use lib.Dec.{eqb}
 use lib.ListN.{length}
-use Rattle.base.specs.Lists.{any, keep, member, distinct}
+use Rattle.base.specs.Lists.{keep, member, distinct}
 use Rattle.base.proofs.Truth.{not-both, and-e, any-i}
 use Rattle.base.proofs.Lists.{keep-e, Distinct}
 

@@ -1,6 +1,6 @@
 -- The cells of the work area, for any number of blocks and any budget; what a call leaves in the area and in the output row.
 -- Rests on base Lists, specs Area and Build.
-use mathlib.Core.Path.{_≡_, refl, sym, ap, _∙_}
+use mathlib.Core.Path.{_≡_, refl, ap, _∙_}
 use mathlib.Core.Bool.{Bool, true, false, not}
 use mathlib.Core.List.{List, [], _∷_, _++_, map}
 use Prim.Native.Nat.{ℕ, zero, suc, _+_, _-_, _*_, _≤_, _<_}

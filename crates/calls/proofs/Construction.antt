@@ -1,10 +1,8 @@
 -- DEMAND 2 of every graph sheet that a build accepts.
 -- Rests on theory Reach, formats Reading and RuleRead, SettingRows, Built.
-use mathlib.Core.Path.{_≡_, refl, sym, ap, subst, _∙_}
-use mathlib.Core.Logic.{_↔_}
-use mathlib.Core.Bool.{Bool, true, false}
+use mathlib.Core.Path.{_≡_, refl, sym, ap, subst}
 use mathlib.Core.List.{List, [], _∷_, List·Memᴰ}
-use mathlib.Core.Option.{Option, some, none, Option·map}
+use mathlib.Core.Option.{Option, some, Option·map}
 use Prim.Native.Nat.{ℕ, _<_}
 use native.Mathlib.Omega.{arith}
 use borrow.Author.Tests.{eqb-true, not-false}
@@ -18,7 +16,7 @@ use Rattle.theory.specs.Setting.{Setting, copies}
 use Rattle.theory.proofs.Completions.{low-some, covers}
 use Rattle.theory.proofs.Reach.{target-mem, reached-in, in-reached, copy-sound}
 use Rattle.formats.specs.GraphSheet.{header}
-use Rattle.formats.specs.BoundedSheet.{sheetWords, heading, boundedLength, copyAt, targetsAt}
+use Rattle.formats.specs.BoundedSheet.{sheetWords, heading, copyAt}
 use Rattle.formats.specs.Rule11.{wrongLength}
 use Rattle.formats.proofs.Reading.{laid, Reads, reads}
 use Rattle.formats.proofs.RuleRead.{clauses}

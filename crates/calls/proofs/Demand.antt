@@ -1,6 +1,6 @@
 -- DEMANDS 2 AND 3, from the build's answer 0 alone.
 -- Rests on theory Agreement and Shape, Weigh, Built, Construction, Moves, Area.
-use mathlib.Core.Path.{_≡_, refl, sym, ap, subst, _∙_}
+use mathlib.Core.Path.{_≡_, sym, ap, subst, _∙_}
 use mathlib.Core.Logic.{_↔_}
 use mathlib.Core.List.{List, map, map-id, List·Memᴰ}
 use Prim.Native.Nat.{ℕ, suc, _≤_}
@@ -11,16 +11,15 @@ use Rattle.base.proofs.Truth.{or-false}
 use Rattle.base.proofs.Orders.{unrefused, over-e}
 use Rattle.theory.specs.Machines.{End, going, exit, diverted, Reply, reply, final, zeros, Unchanged}
 use Rattle.theory.specs.Walks.{Walk, startAt, starting, mostMoves, InShape, monitor, Bounded, boundedWalk, Path}
-use Rattle.theory.specs.Setting.{Setting, Entry, copies, entryPlace, LaysOut, Agrees, PathsKept}
+use Rattle.theory.specs.Setting.{Setting, Entry, entryPlace, LaysOut, Agrees, PathsKept}
 use Rattle.theory.proofs.Runs.{RunsAs, runs-as, unchanged-as, keeps-all}
 use Rattle.theory.proofs.Agreement.{agrees, paths-kept}
 use Rattle.theory.proofs.Shape.{monitor-kept, monitor-start, Held, held-shape, held-kept, held-start}
 use Rattle.formats.specs.Limits.{mostCopies, mostBoundedEdges}
 use Rattle.formats.specs.GraphSheet.{header}
 use Rattle.formats.specs.BoundedSheet.{heading, sheetWords}
-use Rattle.formats.specs.Rule11.{boundedRefusal}
 use Rattle.calls.specs.SheetGraph.{graph, boundedSheet, readBounded}
-use Rattle.calls.specs.Weigh.{Weighing, sheetArea, weighOrder}
+use Rattle.calls.specs.Weigh.{sheetArea, weighOrder}
 use Rattle.calls.specs.Build.{tooMany, Lent, buildOrder, outputAfter, build}
 use Rattle.calls.specs.Moves.{Move, monitoredReply, boundedMove}
 use Rattle.calls.specs.Demand.{boundedBlock, builtWords, Demand3}

@@ -12,13 +12,13 @@ use Rattle.base.specs.Checks.{refused}
 use Rattle.base.proofs.Orders.{passed, none-left, over-i, not-outside}
 use Rattle.theory.specs.Completions.{lowOf}
 use Rattle.theory.specs.Machines.{Reply, reply}
-use Rattle.theory.specs.Walks.{Walk, isExit, InShape, mostMoves, monitor, Bounded, boundedWalk}
+use Rattle.theory.specs.Walks.{Walk, isExit, InShape, mostMoves, monitor, boundedWalk}
 use Rattle.formats.specs.GraphSheet.{header, sheetRefusal}
 use Rattle.formats.specs.BoundedSheet.{heading}
 use Rattle.formats.specs.Rule11.{boundedOrder, boundedRefusal}
 use Rattle.formats.proofs.RuleKept.{bounded-numbered}
 use Rattle.calls.specs.SheetGraph.{graph, readBounded}
-use Rattle.calls.specs.Weigh.{Weighing, sheetArea, weighOrder}
+use Rattle.calls.specs.Weigh.{sheetArea, weighOrder}
 use Rattle.calls.proofs.Weigh.{weigh-numbered, weighs}
 use Rattle.calls.specs.Moves.{outOfShape, Move, MonitoredInput, BoundedInput, monitoredOrder, boundedMoveOrder, unless, monitoredReply}
 use Rattle.calls.specs.Moves.{boundedMove}

@@ -3,13 +3,13 @@
 use mathlib.Core.List.{List, [], _∷_, _++_}
 use Prim.Native.Nat.{ℕ, zero, suc}
 use lib.ListN.{replicate}
-use Rattle.theory.specs.Machines.{End, going, exit, diverted, Reply, answers, final}
+use Rattle.theory.specs.Machines.{End, going, exit, diverted, answers, final}
 use Rattle.theory.specs.Walks.{Walk, starting}
 use Rattle.formats.specs.Rule11.{boundedRefusal}
 use Rattle.formats.specs.Refusals.{Case as FormatCase, outcome as formatOutcome}
 use Rattle.calls.specs.SheetGraph.{boundedSheet}
-use Rattle.calls.specs.Build.{Lent, Built, build}
-use Rattle.calls.specs.Moves.{Move, Monitored, monitoredMove, boundedMove}
+use Rattle.calls.specs.Build.{Lent, build}
+use Rattle.calls.specs.Moves.{Move, monitoredMove, boundedMove}
 use Rattle.calls.specs.Program.{listing}
 use Rattle.calls.specs.Demand.{watch}
 

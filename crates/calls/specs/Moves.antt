@@ -6,7 +6,7 @@ use Prim.Native.Nat.{ℕ, zero, suc}
 use lib.Dec.{ltb, eqb}
 use Rattle.base.specs.Checks.{Order, refused, over, outside}
 use Rattle.theory.specs.Machines.{Reply, reply}
-use Rattle.theory.specs.Walks.{Walk, isExit, mostMoves, monitor, Bounded, boundedWalk}
+use Rattle.theory.specs.Walks.{Walk, isExit, mostMoves, monitor, boundedWalk}
 use Rattle.formats.specs.GraphSheet.{header}
 use Rattle.formats.specs.BoundedSheet.{heading}
 use Rattle.formats.specs.Rule11.{boundedOrder}

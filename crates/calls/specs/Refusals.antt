@@ -6,8 +6,6 @@ use lib.ListN.{replicate}
 use Rattle.theory.specs.Machines.{End, going, exit, diverted}
 use Rattle.theory.specs.Walks.{Walk}
 use Rattle.formats.specs.Samples.{loop, least, six, inBytes}
-use Rattle.calls.specs.Build.{Lent}
-use Rattle.calls.specs.Moves.{Move}
 use Rattle.calls.specs.Cases.{Case, buildOf, monitoredOf, moveOf, watchOf, listingFor}
 
 abbrev walk : ℕ → ℕ → End → Walk

@@ -9,7 +9,7 @@ use borrow.Author.Tests.{ltb-true, ltb-false, eqb-true, not-false, lt-ltb, le-lt
 use lib.Dec.{ltb}
 use lib.ListN.{length, length-map}
 use Rattle.base.specs.Lists.{any, all, from, distinct}
-use Rattle.base.specs.Checks.{refused, outside}
+use Rattle.base.specs.Checks.{outside}
 use Rattle.base.proofs.Truth.{or-false, all-e, any-false}
 use Rattle.base.proofs.Lists.{from-i, each-i, Distinct, distinct-part}
 use Rattle.base.proofs.Orders.{Numbered, unrefused, inside-of, not-outside}

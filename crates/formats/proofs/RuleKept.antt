@@ -17,6 +17,7 @@ use Rattle.base.proofs.Truth.{and-i, none-any}
 use Rattle.base.proofs.Lists.{each-e, from-i, from-e, chosen-map, chosen-some, chosen-le, keep-one}
 use Rattle.base.proofs.Copies.{Rising, rising-chosen}
 use Rattle.base.specs.Checks.{outside}
+use Rattle.formats.specs.Limits.{mostBlocks, mostBudget, leastCopies, mostCopies, leastBoundedEdges, mostBoundedEdges}
 use Rattle.formats.specs.BoundedSheet.{Row, firstEdge, copyWords, edgeWords, edgeCount, sheetWords, Heading, heading}
 use Rattle.formats.specs.BoundedSheet.{blockAt, lowAt, firstAt, targetAt, copyAt, chainAt, targetsAt}
 use Rattle.formats.specs.Rule11.{tooShort, badLimits, wrongLength, largeBudget, badBlocks, badLows, badCopyOrder, copiesOf}
@@ -26,7 +27,7 @@ use Rattle.formats.proofs.Reading.{Laid, laid, Reads, reads, met, copyW
 
 -- what one row of a sheet of n copies with a budget b may say
 pub record RowFits (n b : ℕ) (r : Row) : Type 0 where
-  pub block : (1 ≤ r .copy .block) × (r .copy .block ≤ 128)
+  pub block : (1 ≤ r .copy .block) × (r .copy .block ≤ mostBlocks)
   pub low : r .copy .low ≤ b
   pub exit : r .copy .block ≡ 2 → (r .copy .low ≡ 0) × (r .targetWords ≡ [])
   pub targets : (t : ℕ) → List·Memᴰ t (r .targetWords) → t ≢ 0 → (2 ≤ t) × (t ≤ n)
@@ -47,9 +48,9 @@ pub record RowsFit (b : ℕ) (rs : List Row) : Type 0 where
 
 -- and behind the header
 pub record Fits (b : ℕ) (rs : List Row) : Type 0 where
-  pub few : (2 ≤ length rs) × (length rs ≤ 4096)
-  pub edges : (1 ≤ edgeCount rs) × (edgeCount rs ≤ 8192)
-  pub budget : b ≤ 500
+  pub few : (leastCopies ≤ length rs) × (length rs ≤ mostCopies)
+  pub edges : (leastBoundedEdges ≤ edgeCount rs) × (edgeCount rs ≤ mostBoundedEdges)
+  pub budget : b ≤ mostBudget
   pub one : Once 1 rs
   pub rows : RowsFit b rs
 
@@ -101,10 +102,10 @@ module _ (h : Heading) (s : List ℕ) (rs : List Row) (L : Laid h s rs) (F : Row
 
   blocks-fit : badBlocks h s ≡ false
   unfolding badBlocks
-  blocks-fit = none-any (λ i. outside 1 128 (blockAt h s i)) (from 1 (h .copies)) (λ i m.
+  blocks-fit = none-any (λ i. outside 1 mostBlocks (blockAt h s i)) (from 1 (h .copies)) (λ i m.
       let a = at i m in
       let f = F .row i (a .row) (a .here) in
-      rw (a .reading .block) (not-outside 1 128 _ (f .block .0) (f .block .1)))
+      rw (a .reading .block) (not-outside 1 mostBlocks _ (f .block .0) (f .block .1)))
 
   lows-fit : badLows h s ≡ false
   unfolding badLows
@@ -188,11 +189,11 @@ fits-rule b rs F =
     let h = heading (sheetWords b rs) in
     let R = records-fit h s rs (laid b rs) (F .rows) in
     let limits : badLimits h s ≡ false
-    = rw (not-outside 2 4096 (length rs) (F .few .0) (F .few .1)) (not-outside 1 8192 (edgeCount rs) (F .edges .0) (F .edges .1)) in
+    = rw (not-outside leastCopies mostCopies (length rs) (F .few .0) (F .few .1)) (not-outside leastBoundedEdges mostBoundedEdges (edgeCount rs) (F .edges .0) (F .edges .1)) in
     passed 11 tooShort _ s (le-ltb (length s) 3 (omega arith))
     (passed 11 _ _ s limits
     (passed 11 _ _ s (R .size)
-    (passed 11 _ _ s (le-ltb 500 b (F .budget))
+    (passed 11 _ _ s (le-ltb mostBudget b (F .budget))
     (passed 11 _ _ s (R .blocks)
     (passed 11 _ _ s (R .lows)
     (passed 11 _ _ s (R .order)

@@ -18,6 +18,7 @@ use Rattle.base.specs.Copy.{Copy, before}
 use Rattle.base.proofs.Truth.{and-e, or-false, any-false}
 use Rattle.base.proofs.Lists.{each-i, keep-i, keep-e, from-i, from-e, from-length, chosen-map, chosen-le, chosen-some}
 use Rattle.base.proofs.Copies.{Rising, before-trans}
+use Rattle.formats.specs.Limits.{mostBlocks, mostBudget, leastCopies, mostCopies, leastBoundedEdges, mostBoundedEdges}
 use Rattle.formats.specs.Words.{word, follow}
 use Rattle.base.specs.Checks.{outside}
 use Rattle.formats.specs.BoundedSheet.{Row, firstEdge, edgeRecords, copyWords, edgeWords, edgeCount, sheetWords, Heading, heading}
@@ -276,7 +277,7 @@ module _ (h : Heading) (s : List ℕ) (C : RecordClauses h s) where
   unfolding rowAt copyAt badBlocks badLows copiesOf badExit badTargetWords targetsAt chainAt follow
   row-fits i m =
       record {
-        block = inside-of 1 128 (blockAt h s i) (any-false (λ i. outside 1 128 (blockAt h s i)) (from 1 (h .copies)) (C .blocks) m);
+        block = inside-of 1 mostBlocks (blockAt h s i) (any-false (λ i. outside 1 mostBlocks (blockAt h s i)) (from 1 (h .copies)) (C .blocks) m);
         low = ltb-false (h .budget) (lowAt h s i) (any-false (λ i. ltb (h .budget) (lowAt h s i)) (from 1 (h .copies)) (C .lows) m);
         exit = λ e.
             let k = keep-i (λ i. eqb (blockAt h s i) 2) (from 1 (h .copies)) m (eq-eqb (blockAt h s i) 2 e) in
@@ -337,9 +338,10 @@ pub record Written (s : List ℕ) : Type 0 where
   pub fits : Fits budget rows
 
 pub limits-of : (s : List ℕ) → Clauses s
-    → ((2 ≤ heading s .copies) × (heading s .copies ≤ 4096)) × ((1 ≤ heading s .edges) × (heading s .edges ≤ 8192))
+    → ((leastCopies ≤ heading s .copies) × (heading s .copies ≤ mostCopies))
+    × ((leastBoundedEdges ≤ heading s .edges) × (heading s .edges ≤ mostBoundedEdges))
 unfolding badLimits
-limits-of s C = let p = or-false _ _ (C .limits) in (inside-of 2 4096 _ (p .0), inside-of 1 8192 _ (p .1))
+limits-of s C = let p = or-false _ _ (C .limits) in (inside-of leastCopies mostCopies _ (p .0), inside-of leastBoundedEdges mostBoundedEdges _ (p .1))
 
 written : (s : List ℕ) → Clauses s → Written s
 unfolding heading sheetWords largeBudget tooShort
@@ -357,7 +359,7 @@ written s C =
       fits = record {
         few = omega (arith, l, L .copies);
         edges = omega (arith, l, L .edges);
-        budget = ltb-false 500 (h .budget) (C .budget);
+        budget = ltb-false mostBudget (h .budget) (C .budget);
         one = one-of h s R 1 (C .one);
         rows = rows-fit h s R;
       };

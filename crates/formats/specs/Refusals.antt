@@ -3,11 +3,11 @@
 use mathlib.Core.List.{List, [], _∷_}
 use Prim.Native.Nat.{ℕ}
 use lib.ListN.{set}
-use Rattle.formats.specs.GraphSheet.{sheetRefusal, Counted, countSuccessors}
-use Rattle.formats.specs.Rule11.{boundedRefusal, Part, handOut}
+use Rattle.formats.specs.GraphSheet.{sheetRefusal, countSuccessors}
+use Rattle.formats.specs.Rule11.{boundedRefusal, handOut}
 use Rattle.formats.specs.File.{wordsOf}
 use Rattle.formats.specs.Listing.{decimal, listingOf}
-use Rattle.formats.specs.Samples.{paper, least, nine, inBytes}
+use Rattle.formats.specs.Samples.{paper, nine, inBytes}
 
 -- one input of one call
 pub data Case : Type 0 where

@@ -12,8 +12,8 @@ use native.Mathlib.Nat.{zero-add}
 use borrow.Author.Tests.{eq-eqb, ne-eqb}
 use lib.Dec.{eqb}
 use Rattle.base.specs.Lists.{chosen}
-use Rattle.theory.specs.Completions.{Graph, lowOf}
-use Rattle.base.specs.Copy.{Copy, copyOf, numberFrom}
+use Rattle.theory.specs.Completions.{Graph}
+use Rattle.base.specs.Copy.{Copy, copyOf}
 use Rattle.theory.specs.Copies.{targets, targetNumber}
 use Rattle.theory.specs.Machines.{End, going, exit, diverted, taken, replyAt, reply, answers, final, shown, zeros, Unchanged}
 use Rattle.theory.specs.Walks.{Walk, startAt, starting, endAt, mostMoves, monitor, CopyWalk, entered, copyTake, copyWalk}
@@ -21,11 +21,11 @@ use Rattle.theory.specs.Walks.{Bounded, boundedTake, boundedWalk}
 use Rattle.theory.specs.Setting.{WellFormed, Setting, Entry, starts, copies, exitCopy, startCopy, entryPlace, LaysOut, Agrees}
 use Rattle.theory.specs.Setting.{PathsKept}
 use Rattle.base.proofs.Lists.{chosen-map, chosen-mem, chosen-le, chosen-some, Distinct, one-place}
-use Rattle.theory.proofs.Completions.{low-some, low-none, covers}
-use Rattle.theory.proofs.Runs.{Alike, neither, both, Keeps, agree, agree-all, shown-all, stays}
+use Rattle.theory.proofs.Completions.{low-some, covers}
+use Rattle.theory.proofs.Runs.{Alike, neither, both, Keeps, agree, agree-all, shown-all}
 use Rattle.theory.proofs.Simulation.{follows-keeps, follows-all, follows-start}
-use Rattle.theory.proofs.Counts.{not-diverted, Timely, timely-start, timely-all, early, never-stuck}
-use Rattle.theory.proofs.Paths.{path-completion, not-both, runs, only}
+use Rattle.theory.proofs.Counts.{Timely, timely-start, timely-all, early, never-stuck}
+use Rattle.theory.proofs.Paths.{path-completion, runs, only}
 use Rattle.theory.proofs.Reach.{targets-in, copy-sound, start-in, exit-only}
 use Rattle.base.proofs.Copies.{before-cases, rising-chosen, rising-distinct, number-place, number-chosen}
 use Rattle.theory.proofs.Order.{copies-rise}

@@ -1,6 +1,6 @@
 -- The monitor is the watch of document 01, sentence by sentence, over the inductive completions.
 -- Rests on Completions, Runs.
-use mathlib.Core.Path.{_≡_, refl, sym, ap, _∙_}
+use mathlib.Core.Path.{_≡_, refl, ap, _∙_}
 use mathlib.Core.Logic.{_⊎_, inl, inr, _≢_}
 use mathlib.Core.List.{List, [], _∷_}
 use mathlib.Core.Option.{Option, some, none}
@@ -9,7 +9,7 @@ use native.Mathlib.Omega.{arith}
 use lib.ListN.{length}
 use Rattle.base.specs.Lists.{chosen}
 use Rattle.theory.specs.Completions.{Graph, Completion, lowOf}
-use Rattle.theory.specs.Machines.{End, going, exit, diverted, Reply, taken, replyAt, reply}
+use Rattle.theory.specs.Machines.{End, going, exit, diverted, taken, replyAt, reply}
 use Rattle.theory.specs.Walks.{Walk, monitor, monitorTake}
 use Rattle.theory.specs.Setting.{WellFormed, ActsAsWatch}
 use Rattle.theory.proofs.Completions.{low-some, low-none}

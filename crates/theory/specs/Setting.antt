@@ -11,7 +11,7 @@ use Rattle.base.specs.Copy.{Copy, copyOf, numberFrom}
 use Rattle.theory.specs.Completions.{Graph, Completion, lowOf}
 use Rattle.theory.specs.Copies.{targets, targetNumber, startCopies, copiesFrom}
 use Rattle.theory.specs.Machines.{going, diverted, reply, answers, final, zeros, Unchanged}
-use Rattle.theory.specs.Walks.{Walk, startAt, starting, endAt, mostMoves, monitor, Bounded, boundedWalk, Path}
+use Rattle.theory.specs.Walks.{Walk, endAt, mostMoves, monitor, Bounded, boundedWalk, Path}
 
 -- the start and the exit cost nothing, a block with an edge other than the start costs something, no edge leads to the start
 -- and none leaves the exit

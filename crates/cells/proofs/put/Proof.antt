@@ -1,6 +1,6 @@
 -- `cells::put` meets its contract, by its two ways.
 -- Rests on `place`.
-use mathlib.Core.Path.{sym, ap, ap₂}
+use mathlib.Core.Path.{sym, ap₂}
 use mathlib.Core.Bool.{Bool}
 use Prim.Native.Nat.{ℕ}
 use borrow.Author.Needs.{needs}
