@@ -5,6 +5,7 @@ mod bounded;
 mod construction;
 mod graph;
 mod listing;
+pub mod corpus;
 pub mod random;
 mod walk;
 

@@ -1,6 +1,7 @@
-// The command line tool: `reference listing < sheet`, `reference build < decimal words` and `reference cases SEED COUNT SIZE`.
+// The command line tool: a listing, a build, random cases, a corpus of sheets and its listings; see USAGE.
 // It rests on the library and its random material; it prints what the library answers.
 
+use reference::corpus;
 use reference::random::{self, Random, Size};
 use reference::{
     bounded_move, build, check_bounded, check_graph, edge_words, listing, monitored_move,
@@ -9,7 +10,7 @@ use reference::{
 use std::io::{self, BufWriter, Read, Write};
 use std::process::ExitCode;
 
-const USAGE: &str = "usage: reference listing < sheet\n       reference build < decimal words\n       reference cases SEED COUNT tiny|small|any";
+const USAGE: &str = "usage: reference listing < sheet\n       reference build < decimal words\n       reference corpus SEED COUNT > sheets\n       reference worst > sheets\n       reference listings < sheets\n       reference cases SEED COUNT tiny|small|any";
 
 fn main() -> ExitCode {
     let arguments: Vec<String> = std::env::args().skip(1).collect();
@@ -17,6 +18,12 @@ fn main() -> ExitCode {
     let done = match arguments[..] {
         ["listing"] => print_listing(),
         ["build"] => print_build(),
+        ["listings"] => print_listings(),
+        ["worst"] => io::stdout().lock().write_all(&corpus::encoded(&corpus::worst())),
+        ["corpus", seed, count] => match (seed.parse(), count.parse()) {
+            (Ok(seed), Ok(count)) => io::stdout().lock().write_all(&corpus::encoded(&corpus::corpus(seed, count))),
+            _ => return usage(),
+        },
         ["cases", seed, count, size] => match (seed.parse(), count.parse(), size_named(size)) {
             (Ok(seed), Ok(count), Some(size)) => print_cases(seed, count, size),
             _ => return usage(),
@@ -51,6 +58,17 @@ fn print_listing() -> io::Result<()> {
     let mut bytes = Vec::new();
     io::stdin().lock().read_to_end(&mut bytes)?;
     io::stdout().lock().write_all(listing(&bytes).as_bytes())
+}
+
+/// The listing of each sheet of a corpus file.
+fn print_listings() -> io::Result<()> {
+    let mut bytes = Vec::new();
+    io::stdin().lock().read_to_end(&mut bytes)?;
+    let mut out = BufWriter::new(io::stdout().lock());
+    for sheet in corpus::decoded(&bytes) {
+        out.write_all(listing(sheet).as_bytes())?;
+    }
+    out.flush()
 }
 
 /// A build with buffers that are long enough: the answer, and the words that it fills.

@@ -203,22 +203,7 @@ fn build_answers_in_order_with_what_they_leave() {
 
 #[test]
 fn limits_of_copies_and_edges() {
-    // A row of 46 blocks, each looping and going on: 4,096 copies, 8,188 edges and the start's.
-    let graph = |start_edges: usize, extra_block: bool| {
-        let blocks = 48 + usize::from(extra_block);
-        let mut costs = vec![1; blocks];
-        costs[0] = 0;
-        costs[1] = 0;
-        let mut successors = vec![vec![3; start_edges], vec![]];
-        for block in 3..=48 {
-            successors.push(vec![block, if block == 48 { 2 } else { block + 1 }]);
-        }
-        if extra_block {
-            successors[0].push(49);
-            successors.push(vec![2]);
-        }
-        graph_sheet(&costs, &successors, 134)
-    };
+    let graph = reference::corpus::at_the_limits;
     assert_eq!(sheet_of(&graph(1, false))[..3], [4096, 8189, 134]);
     assert_eq!(sheet_of(&graph(4, false))[..3], [4096, 8192, 134]);
     assert_eq!(check_bounded(&sheet_of(&graph(4, false))), 0);

@@ -1,7 +1,7 @@
 -- Chains of records, turn by turn, as code with the definition's own fuel goes down them.
 -- Rests on formats Words and Chains.
 use mathlib.Core.Path.{_≡_, refl, sym, ap, _∙_}
-use mathlib.Core.List.{List, [], _∷_}
+use mathlib.Core.List.{[], _∷_}
 use Prim.Native.Nat.{ℕ, zero, suc, _-_, _<_}
 use native.Mathlib.Omega.{arith}
 use lib.ListN.{length}

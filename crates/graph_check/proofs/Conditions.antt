@@ -2,7 +2,7 @@
 -- Rests on Orders, Search, graph_words Formed.
 use mathlib.Core.Path.{_≡_, refl}
 use mathlib.Core.Bool.{Bool, not}
-use mathlib.Core.List.{List, _++_}
+use mathlib.Core.List.{List}
 use Prim.Native.Nat.{ℕ}
 use Rattle.base.specs.Lists.{any, all, from}
 use Rattle.base.specs.Checks.{refused, outside}

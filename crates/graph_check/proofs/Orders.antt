@@ -2,8 +2,8 @@
 -- Rests on base Checks.
 use mathlib.Core.Path.{_≡_, refl, ap}
 use mathlib.Core.Bool.{Bool, true, false}
-use mathlib.Core.List.{List, [], _∷_, _++_}
-use Prim.Native.Nat.{ℕ, zero, suc}
+use mathlib.Core.List.{[], _∷_, _++_}
+use Prim.Native.Nat.{ℕ}
 use native.Mathlib.Omega.{arith}
 use lib.Dec.{ltb}
 use borrow.Author.Tests.{ltb-true}
@@ -41,6 +41,7 @@ module _ {I : Type 0} where
     where
       a : (ltb 0 (x .0) ≡ true) × Numbered xs
       a = and-e (ltb 0 (x .0)) (all (λ r. ltb 0 (r .0)) xs) n
+
       go : (b : Bool) → x .1 i ≡ b → (refused xs i ≡ 0 → refused (xs ++ ys) i ≡ refused ys i)
           → refused (x ∷ (xs ++ ys)) i ≡ refused ys i
       go true p rest = absurd (let q : x .0 ≡ 0 = rw (p, refused) at e in omega (arith, ltb-true 0 (x .0) (a .0)))

@@ -2,8 +2,7 @@
 // Rests on graph_words; the promises are equations with formats GraphSheet.
 ghost use mathlib.Core.Path.{_≡_};
 ghost use mathlib.Core.Bool.{true, false};
-ghost use mathlib.Core.List.{List};
-ghost use Prim.Native.Nat.{ℕ, suc, _≤_};
+ghost use Prim.Native.Nat.{suc, _≤_};
 ghost use lib.ListN.{length};
 ghost use Rattle.base.specs.Checks.{refused, outside};
 ghost use Rattle.formats.specs.Limits.{mostEdges};
@@ -14,9 +13,19 @@ ghost use Rattle.graph_words.specs.Formed.{Formed};
 ghost use Rattle.graph_check.specs.Parts.{formOrder, recordOrder};
 ghost use Rattle.graph_check.specs.Marks.{Marking, missed};
 ghost use Rattle.graph_check.specs.Chains.{Inside};
-
-use graph_words::{LEAST_BLOCKS, MOST_BLOCKS, LEAST_EDGES, MOST_EDGES, MOST_BUDGET, HEADER_WORDS};
-use graph_words::{blocks, edges, budget, cost_of, first_of, target_of, next_of};
+use graph_words::HEADER_WORDS;
+use graph_words::LEAST_BLOCKS;
+use graph_words::LEAST_EDGES;
+use graph_words::MOST_BLOCKS;
+use graph_words::MOST_BUDGET;
+use graph_words::MOST_EDGES;
+use graph_words::blocks;
+use graph_words::budget;
+use graph_words::cost_of;
+use graph_words::edges;
+use graph_words::first_of;
+use graph_words::next_of;
+use graph_words::target_of;
 
 // A number outside the limits lo to hi.
 fn is_outside(lo: usize, hi: usize, n: usize) -> bool
@@ -207,7 +216,7 @@ pub fn check_graph(s: &[u16]) -> u16
 }
 
 // The number of edges of a chain from e on: "zero if empty, else one more than the rest"; at most k.
-fn chain_length(s: &[u16], e: usize, k: usize) -> usize
+pub fn chain_length(s: &[u16], e: usize, k: usize) -> usize
     requires { ⌜ Formed (now s) ⌝ }
     requires { ⌜ k ≤ suc mostEdges ⌝ }
     requires { ⌜ Inside (now s) k e ⌝ }
@@ -246,13 +255,22 @@ pub fn count_successors(s: &[u16], v: u16) -> Counted
 {
     let a = check_graph(s);
     if a != 0 {
-        return Counted { answer: a, count: 0 };
+        return Counted {
+            answer: a,
+            count: 0,
+        };
     }
     let n = blocks(s);
     let b = v as usize;
     if is_outside(1, n, b) {
-        return Counted { answer: 33, count: 0 };
+        return Counted {
+            answer: 33,
+            count: 0,
+        };
     }
     let count = successor_count(s, b);
-    Counted { answer: 0, count: count as u16 }
+    Counted {
+        answer: 0,
+        count: count as u16,
+    }
 }

@@ -1,7 +1,7 @@
 // The words of a graph sheet, by number, and the limits of its header; below the public calls.
 // Rests on formats: Limits, Words, GraphSheet. Readers of records ask for a sheet that passes the conditions 1 to 3 (specs Formed).
 ghost use mathlib.Core.Path.{_≡_};
-ghost use Prim.Native.Nat.{ℕ, _<_, _≤_};
+ghost use Prim.Native.Nat.{_<_, _≤_};
 ghost use lib.ListN.{length};
 ghost use Rattle.formats.specs.Limits.{wordLimit};
 ghost use Rattle.formats.specs.Words.{word};
@@ -10,9 +10,13 @@ ghost use Rattle.graph_words.specs.Formed.{Formed};
 
 // "Limits: N 2 to 128, E 1 to 512, B 0 to 500"
 pub const LEAST_BLOCKS: usize = 2;
+
 pub const MOST_BLOCKS: usize = 128;
+
 pub const LEAST_EDGES: usize = 1;
+
 pub const MOST_EDGES: usize = 512;
+
 pub const MOST_BUDGET: usize = 500;
 
 // The words of the header; the records begin behind them.

@@ -1,7 +1,7 @@
 -- A chain's length is 0 if it is empty, else one more than that of the rest. The measure is what is left to count.
 -- Rests on Chains and Counting.
 use mathlib.Core.Path.{_≡_, sym, ap, _∙_}
-use Prim.Native.Nat.{ℕ, suc, _-_, _≤_, _<_}
+use Prim.Native.Nat.{ℕ, _-_, _<_}
 use native.Mathlib.Omega.{arith}
 use borrow.Author.Needs.{needs}
 use borrow.Fn.Kinds.{In}
@@ -63,5 +63,5 @@ module _ (t : ℕ) where
 pub +chain-length-spec : {M : Type 1} → statement M
 +chain-length-spec =
     close μ
-    (λ t. lts.spec (next-of.Asked, next-of.Learnt, below t, chain-length.Post) (at t) chain-length.Post (returns t) (returns-2 t) (next-of-requires t)
-    (λ c. search needs) (rest-requires t) (λ c. search needs) (returns-3 t))
+    (λ t. lts.spec (next-of.Asked, next-of.Learnt, below t, chain-length.Post) (at t) chain-length.Post
+    (returns t) (returns-2 t) (next-of-requires t) (λ c. search needs) (rest-requires t) (λ c. search needs) (returns-3 t))

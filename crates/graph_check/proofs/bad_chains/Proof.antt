@@ -1,11 +1,11 @@
 -- All chains are followed, block by block, with one row of marks.
--- Rests on Marks.
+-- Rests on Following.
 use mathlib.Core.Path.{ap, _∙_}
 use Prim.Native.Nat.{ℕ, _+_, _-_}
 use native.Mathlib.Omega.{arith}
 use borrow.Author.Needs.{needs}
 use Rattle.graph_check.specs.Marks.{missed}
-use Rattle.graph_check.proofs.Marks.{Following, begin, broken, onward, all-done}
+use Rattle.graph_check.proofs.Following.{Following, begin, broken, onward, all-done}
 use Rattle.graph_check.proofs.bad_chains.Statement.{statement}
 use Rattle.graph_check.proofs.bad_chains.Tie as tie
 
@@ -20,14 +20,15 @@ loop-holds c = begin _ (c .before .blocks2 .ensures .0) (c .before .before .befo
 
 returns : tie.Need-returns Inv-loop μ-loop
 returns c =
-    let l = c .before .before .before .before .before .before in
-    broken _ (l .loop .inv) (c .before .before .mark-chain .ensures) (c .before .before .before .before .before .loop-test .taken) (c .before .before .before .before .first-of .ensures .0) (c .if1 .taken)
+    let f = c .before .before .before .before in
+    broken _ (f .before .before .loop .inv) (c .before .before .mark-chain .ensures) (f .before .loop-test .taken) (f .first-of .ensures .0)
+    (c .if1 .taken)
 
 loop-again : tie.Need-loop-again Inv-loop μ-loop
 loop-again c =
-    let l = c .before .before .before .before .before .before in
-    onward _ (l .loop .inv) (c .before .before .mark-chain .ensures) (c .before .before .before .before .before .loop-test .taken) (c .before .before .before .before .first-of .ensures .0) (c .if1 .left)
-    (search needs)
+    let f = c .before .before .before .before in
+    onward _ (f .before .before .loop .inv) (c .before .before .mark-chain .ensures) (f .before .loop-test .taken) (f .first-of .ensures .0)
+    (c .if1 .left) (search needs)
 
 returns-2 : tie.Need-returns-2 Inv-loop μ-loop
 returns-2 c =

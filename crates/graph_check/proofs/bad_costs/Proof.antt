@@ -1,6 +1,6 @@
 -- A search for a block whose cost does not fit.
 -- Rests on Search and Conditions.
-use Prim.Native.Nat.{ℕ, _+_, _-_}
+use Prim.Native.Nat.{_+_, _-_}
 use borrow.Author.Needs.{needs}
 use Rattle.formats.specs.GraphSheet.{badCosts}
 use Rattle.graph_check.proofs.Search.{Search, begin, found, onward, none}
@@ -19,12 +19,14 @@ loop-holds c = begin (c .blocks2 .ensures .0) (costs-are _)
 
 returns : tie.Need-returns Inv-loop μ-loop
 returns c =
-    found (c .before .before .before .before .loop .inv) (c .before .before .before .loop-test .taken)
+    let t = c .before .before .before in
+    found (t .before .loop .inv) (t .loop-test .taken)
     (misfit-is _ _ (c .before .before .cost-of .ensures .0) (c .before .cost-fits .ensures) (c .if1 .taken))
 
 loop-again : tie.Need-loop-again Inv-loop μ-loop
 loop-again c =
-    onward (c .before .before .before .before .loop .inv) (c .before .before .before .loop-test .taken)
+    let t = c .before .before .before in
+    onward (t .before .loop .inv) (t .loop-test .taken)
     (misfit-is _ _ (c .before .before .cost-of .ensures .0) (c .before .cost-fits .ensures) (c .if1 .left))
 
 returns-2 : tie.Need-returns-2 Inv-loop μ-loop

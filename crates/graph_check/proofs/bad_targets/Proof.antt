@@ -1,6 +1,6 @@
 -- A search for an edge whose target is 0, 1 or above N.
 -- Rests on Search and Conditions.
-use Prim.Native.Nat.{ℕ, _+_, _-_}
+use Prim.Native.Nat.{_+_, _-_}
 use borrow.Author.Needs.{needs}
 use Rattle.formats.specs.GraphSheet.{badTargets}
 use Rattle.graph_check.proofs.Search.{Search, begin, found, onward, none}
@@ -19,15 +19,17 @@ loop-holds c = begin (c .edges .ensures .0) (targets-are _)
 
 returns : tie.Need-returns Inv-loop μ-loop
 returns c =
-    let l = c .before .before .before .before in
-    found (l .loop .inv) (c .before .before .before .loop-test .taken)
-    (stray-is _ _ (l .before .before .blocks2 .ensures .0) (c .before .before .target-of .ensures .0) (c .before .is-outside .ensures) (c .if1 .taken))
+    let t = c .before .before .before in
+    found (t .before .loop .inv) (t .loop-test .taken)
+    (stray-is _ _ (t .before .before .before .blocks2 .ensures .0) (c .before .before .target-of .ensures .0)
+    (c .before .is-outside .ensures) (c .if1 .taken))
 
 loop-again : tie.Need-loop-again Inv-loop μ-loop
 loop-again c =
-    let l = c .before .before .before .before in
-    onward (l .loop .inv) (c .before .before .before .loop-test .taken)
-    (stray-is _ _ (l .before .before .blocks2 .ensures .0) (c .before .before .target-of .ensures .0) (c .before .is-outside .ensures) (c .if1 .left))
+    let t = c .before .before .before in
+    onward (t .before .loop .inv) (t .loop-test .taken)
+    (stray-is _ _ (t .before .before .before .blocks2 .ensures .0) (c .before .before .target-of .ensures .0)
+    (c .before .is-outside .ensures) (c .if1 .left))
 
 returns-2 : tie.Need-returns-2 Inv-loop μ-loop
 returns-2 c = none (c .before .loop .inv) (c .loop-test .left)

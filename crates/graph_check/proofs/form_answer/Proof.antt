@@ -23,10 +23,14 @@ unfolding short header
 returns c = let w = c .before .before .args .s .now in sym (form-answer w true _ _ _ (lt-ltb (length w) 3 (omega arith)) refl refl refl)
 
 returns-2 : tie.Need-returns-2
-returns-2 c = let w = c .before .before .before .before .args .s .now in sym (form-answer w false true _ _ (not-short w (omega arith)) (cc) refl refl)
+returns-2 c =
+    let w = c .before .before .before .before .args .s .now in
+    sym (form-answer w false true _ _ (not-short w (omega arith)) (cc) refl refl)
 
 returns-3 : tie.Need-returns-3
-returns-3 c = let w = c .before .before .before .before .before .before .args .s .now in sym (form-answer w false false true _ (not-short w (omega arith)) (cc) (cc) refl)
+returns-3 c =
+    let w = c .before .before .before .before .before .before .args .s .now in
+    sym (form-answer w false false true _ (not-short w (omega arith)) (cc) (cc) refl)
 
 returns-4 : tie.Need-returns-4
 unfolding badBudget

@@ -1,9 +1,8 @@
 -- One chain is followed; each turn meets the next edge, and the rest decides.
--- Rests on Marks.
-use Prim.Native.Nat.{ℕ}
+-- Rests on Following.
 use native.Mathlib.Omega.{arith}
 use borrow.Author.Needs.{needs}
-use Rattle.graph_check.proofs.Marks.{Chained, chain-begins, chain-ends, fuel-ends, edge-above, edge-twice, edge-new}
+use Rattle.graph_check.proofs.Following.{Chained, chain-begins, chain-ends, fuel-ends, edge-above, edge-twice, edge-new}
 use Rattle.graph_check.proofs.mark_chain.Statement.{statement}
 use Rattle.graph_check.proofs.mark_chain.Tie as tie
 
@@ -20,15 +19,19 @@ returns : tie.Need-returns Inv-loop μ-loop
 returns c = chain-ends _ (c .before .before .loop .inv) (c .if1 .taken)
 
 returns-2 : tie.Need-returns-2 Inv-loop μ-loop
-returns-2 c = edge-above _ (c .before .before .before .loop .inv) (c .before .before .loop-test .taken) (c .before .if1 .left) (omega arith)
+returns-2 c =
+    let d = c .before in
+    edge-above _ (d .before .before .loop .inv) (d .before .loop-test .taken) (d .if1 .left) (omega arith)
 
 returns-3 : tie.Need-returns-3 Inv-loop μ-loop
 returns-3 c =
-    edge-twice _ (c .before .before .before .before .before .loop .inv) (c .before .before .before .before .loop-test .taken) (c .before .before .before .if1 .left) (omega arith) (c .if3 .taken)
+    let d = c .before .before .before in
+    edge-twice _ (d .before .before .loop .inv) (d .before .loop-test .taken) (d .if1 .left) (omega arith) (c .if3 .taken)
 
 loop-again : tie.Need-loop-again Inv-loop μ-loop
 loop-again c =
-    edge-new _ (c .before .before .before .before .before .before .loop .inv) (c .before .before .before .before .before .loop-test .taken) (c .before .before .before .before .if1 .left) (omega arith) (c .before .if3 .left)
+    let d = c .before .before .before .before in
+    edge-new _ (d .before .before .loop .inv) (d .before .loop-test .taken) (d .if1 .left) (omega arith) (c .before .if3 .left)
     (c .next-of .ensures .0)
 
 returns-4 : tie.Need-returns-4 Inv-loop μ-loop

@@ -2,7 +2,7 @@
 -- Rests on Search and Conditions.
 use mathlib.Core.Path.{refl, ap}
 use mathlib.Core.Bool.{not}
-use Prim.Native.Nat.{ℕ, _+_, _-_}
+use Prim.Native.Nat.{_+_, _-_}
 use borrow.Author.Needs.{needs}
 use borrow.Author.Tests.{eq-eqb, ne-eqb}
 use Rattle.graph_check.specs.Marks.{marked, missed}
@@ -22,11 +22,15 @@ loop-holds c = begin refl (missed-are _ _)
 
 returns : tie.Need-returns Inv-loop μ-loop
 unfolding marked
-returns c = found (c .before .before .before .loop .inv) (c .before .before .loop-test .taken) (ap (λ x. not (not x)) (eq-eqb _ _ (c .if1 .taken)))
+returns c =
+    let t = c .before .before in
+    found (t .before .loop .inv) (t .loop-test .taken) (ap (λ x. not (not x)) (eq-eqb _ _ (c .if1 .taken)))
 
 loop-again : tie.Need-loop-again Inv-loop μ-loop
 unfolding marked
-loop-again c = onward (c .before .before .before .loop .inv) (c .before .before .loop-test .taken) (ap (λ x. not (not x)) (ne-eqb _ _ (c .if1 .left)))
+loop-again c =
+    let t = c .before .before in
+    onward (t .before .loop .inv) (t .loop-test .taken) (ap (λ x. not (not x)) (ne-eqb _ _ (c .if1 .left)))
 
 returns-2 : tie.Need-returns-2 Inv-loop μ-loop
 returns-2 c = none (c .before .loop .inv) (c .loop-test .left)

@@ -20,4 +20,7 @@ returns c =
     (c .word-at .ensures .0 ∙ ap (λ (n : ℕ). word (z .args .s .now) (place n)) (c .before .blocks2 .ensures .0), c .word-at .ensures .1)
 
 pub next-of-spec : {M : Type 1} → statement M
-next-of-spec = tie.close (tie.spec (λ c κs. search needs) (λ c. search needs) (λ c. search needs) (λ c. search needs) (λ c. search needs) (λ c. search needs) (λ c. search needs) word-at-requires returns)
+next-of-spec =
+    tie.close
+    (tie.spec (λ c κs. search needs) (λ c. search needs) (λ c. search needs) (λ c. search needs) (λ c. search needs)
+    (λ c. search needs) (λ c. search needs) word-at-requires returns)

@@ -1,0 +1,129 @@
+// A corpus of graph sheets: the examples of document 01, a sheet for each refusal number, the worst sheets, and random ones.
+// It rests on graph.rs and random.rs. In a corpus file each sheet is preceded by a word with its length in words.
+
+use crate::graph::{graph_sheet, paper_example};
+use crate::random::{damaged_graph, graph_near_the_limits, valid_graph, Random, Size};
+
+/// Block 3 with a cost, its successors, and the start to it.
+fn one_block(cost: u16, successors: &[u16], budget: u16) -> Vec<u16> {
+    graph_sheet(&[0, 0, cost], &[vec![3], vec![], successors.to_vec()], budget)
+}
+
+fn changed(mut words: Vec<u16>, place: usize, word: u16) -> Vec<u16> {
+    words[place] = word;
+    words
+}
+
+/// The examples, starred or not, in the document's order.
+pub fn examples() -> Vec<Vec<u16>> {
+    let mut sheets: Vec<Vec<u16>> = [4, 5, 7, 8, 9, 11, 12].iter().map(|budget| paper_example(*budget)).collect();
+    sheets.push(vec![2, 1, 0, 0, 1, 0, 0, 2, 0]);
+    sheets.push(one_block(3, &[3, 2], 7));
+    sheets.push(one_block(3, &[3, 2], 9));
+    sheets.push(one_block(1, &[2, 2], 1));
+    sheets.push(paper_example(501));
+    sheets.push(changed(paper_example(9), 0, 129));
+    sheets.push(changed(paper_example(9), 20, 1));
+    sheets
+}
+
+/// One block of cost 1 with 510 edges to the exit and its edge to itself last: refused 10.
+pub fn widest() -> Vec<u16> {
+    let mut successors = vec![2; 510];
+    successors.push(3);
+    one_block(1, &successors, 500)
+}
+
+/// 126 blocks of cost 1, each to itself and the exit, and the start to each of them: refused 10.
+pub fn most_copies() -> Vec<u16> {
+    let mut costs = vec![0, 0];
+    let mut successors = vec![(3..=128).collect::<Vec<u16>>(), vec![]];
+    for block in 3..=128 {
+        costs.push(1);
+        successors.push(vec![block, 2]);
+    }
+    graph_sheet(&costs, &successors, 500)
+}
+
+/// A row of 46 blocks, each looping and going on, the start with so many edges to the first: 4,096 copies and 8,188 edges besides
+/// the start's. With an extra block there is one copy more.
+pub fn at_the_limits(start_edges: usize, extra_block: bool) -> Vec<u16> {
+    let blocks = 48 + usize::from(extra_block);
+    let mut costs = vec![1; blocks];
+    costs[0] = 0;
+    costs[1] = 0;
+    let mut successors = vec![vec![3; start_edges], vec![]];
+    for block in 3..=48 {
+        successors.push(vec![block, if block == 48 { 2 } else { block + 1 }]);
+    }
+    if extra_block {
+        successors[0].push(49);
+        successors.push(vec![2]);
+    }
+    graph_sheet(&costs, &successors, 134)
+}
+
+/// The worst sheets: the widest and the one with most copies, both refused 10, and those at C = 4,096 and F = 8,192 and one above each.
+pub fn worst() -> Vec<Vec<u16>> {
+    vec![widest(), most_copies(), at_the_limits(1, false), at_the_limits(4, false), at_the_limits(5, false), at_the_limits(1, true)]
+}
+
+/// A sheet for each refusal number of a build with buffers that are long enough.
+pub fn refusals() -> Vec<Vec<u16>> {
+    vec![
+        vec![2, 1],
+        vec![1, 1, 0],
+        vec![2, 1, 0, 0, 1, 0, 0, 2],
+        vec![2, 1, 501, 0, 1, 0, 0, 2, 0],
+        vec![2, 1, 0, 1, 1, 0, 0, 2, 0],
+        vec![2, 1, 0, 0, 1, 0, 0, 1, 0],
+        vec![2, 1, 0, 0, 1, 0, 0, 2, 1],
+        vec![2, 1, 0, 0, 0, 0, 1, 2, 0],
+        paper_example(4),
+        widest(),
+    ]
+}
+
+/// The corpus: the named sheets, then `count` random ones, valid and damaged.
+pub fn corpus(seed: u64, count: usize) -> Vec<Vec<u16>> {
+    let mut sheets = examples();
+    sheets.extend(refusals());
+    let mut random = Random::new(seed);
+    for index in 0..count {
+        sheets.push(match index % 20 {
+            0 if index % 100 == 0 => graph_near_the_limits(&mut random),
+            0 => valid_graph(&mut random, Size::Any),
+            1..=7 => valid_graph(&mut random, Size::Small),
+            8..=12 => valid_graph(&mut random, Size::Tiny),
+            13 => damaged_graph(&mut random, Size::Any),
+            14..=16 => damaged_graph(&mut random, Size::Small),
+            _ => damaged_graph(&mut random, Size::Tiny),
+        });
+    }
+    sheets
+}
+
+/// Sheets as bytes, each after its length.
+pub fn encoded(sheets: &[Vec<u16>]) -> Vec<u8> {
+    let mut bytes = Vec::new();
+    for sheet in sheets {
+        bytes.extend((sheet.len() as u16).to_le_bytes());
+        for word in sheet {
+            bytes.extend(word.to_le_bytes());
+        }
+    }
+    bytes
+}
+
+/// The sheets of a corpus file, each as its bytes.
+pub fn decoded(bytes: &[u8]) -> Vec<&[u8]> {
+    let mut sheets = Vec::new();
+    let mut rest = bytes;
+    while rest.len() >= 2 {
+        let length = 2 * (usize::from(rest[0]) + 256 * usize::from(rest[1]));
+        let end = (2 + length).min(rest.len());
+        sheets.push(&rest[2..end]);
+        rest = &rest[end..];
+    }
+    sheets
+}
