@@ -1,6 +1,8 @@
--- the cells of the area, and what is lent: cell, reads, lent-on, target-cell
+-- the cells of an area that is ready: cell, target-block, ready-on
 pub mod Cells
--- which cells decide a cell, and what one write makes right: by-done, by-line, done-keeps, line-more, line-done
+-- one turn of the loop over a block's successors: begin, ends, out, edge, target, hit, on
+pub mod Next
+-- which cells decide a cell, and what one write makes right: by-done, by-line, next-block, cost-done
 pub mod States
 -- all cells right is the filled area: is-filled
 pub mod Filled

@@ -1,4 +1,4 @@
--- The work area while it is filled: what is lent, which cells are right, and what is kept.
+-- The work area while it is filled: what is asked of it, which cells are right, and what is kept.
 -- Rests on theory Completions, formats Limits and GraphSheet, calls SheetGraph and Area.
 use mathlib.Core.Path.{_≡_}
 use mathlib.Core.List.{List, List·Memᴰ}
@@ -11,7 +11,7 @@ use Rattle.calls.specs.SheetGraph.{graph}
 use Rattle.calls.specs.Area.{cellOf, areaSize, byteOf}
 
 -- an accepted sheet w, a budget b within its limit, and an area with room for both
-pub record Lent (w : List ℕ) (b : ℕ) (area : List ℕ) : Type 0 where
+pub record Ready (w : List ℕ) (b : ℕ) (area : List ℕ) : Type 0 where
   pub ok : sheetRefusal w ≡ 0
   pub budget : b ≤ mostBudget
   pub room : areaSize (header w .blocks) b ≤ length area

@@ -9,14 +9,19 @@ ghost use Rattle.formats.specs.Limits.{mostBudget};
 ghost use Rattle.formats.specs.GraphSheet.{header, sheetRefusal};
 ghost use Rattle.calls.specs.SheetGraph.{graph};
 ghost use Rattle.calls.specs.Area.{areaSize, filled};
-ghost use Rattle.weigh.specs.States.{Lent, Ahead, Decided, Done, Kept};
-
-use graph_words::{blocks, edges, cost_of, first_of, target_of, next_of};
-use cells::{is_set, put};
+ghost use Rattle.weigh.specs.States.{Ready, Ahead, Decided, Done, Kept};
+use cells::is_set;
+use cells::put;
+use graph_words::blocks;
+use graph_words::cost_of;
+use graph_words::edges;
+use graph_words::first_of;
+use graph_words::next_of;
+use graph_words::target_of;
 
 // Some successor of v has the cost d, by the successors' cells.
 fn some_next(s: &[u16], area: &[u8], b: usize, v: usize, d: usize) -> bool
-    requires { ⌜ Lent (now s) b (now area) ⌝ }
+    requires { ⌜ Ready (now s) b (now area) ⌝ }
     requires { ⌜ (1 ≤ v) × (v ≤ header (now s) .blocks) × (d ≤ b) ⌝ }
     requires { ⌜ Ahead (now s) b (now area) v d ⌝ }
     ensures { λ r. ⌜ r ≡ any (λ t. completes (graph (now (s .entry))) t d) (graph (now (s .entry)) .next v) ⌝ }
@@ -40,7 +45,7 @@ fn some_next(s: &[u16], area: &[u8], b: usize, v: usize, d: usize) -> bool
 
 // Whether block v has a completion costing c.
 fn completes_at(s: &[u16], area: &[u8], b: usize, v: usize, c: usize) -> bool
-    requires { ⌜ Lent (now s) b (now area) ⌝ }
+    requires { ⌜ Ready (now s) b (now area) ⌝ }
     requires { ⌜ (1 ≤ v) × (v ≤ header (now s) .blocks) × (c ≤ b) ⌝ }
     requires { ⌜ Decided (now s) b (now area) v c ⌝ }
     ensures { λ r. ⌜ r ≡ completes (graph (now (s .entry))) v c ⌝ }
@@ -57,7 +62,7 @@ fn completes_at(s: &[u16], area: &[u8], b: usize, v: usize, c: usize) -> bool
 
 // The cells of all blocks at the cost c; block 1 last, which costs nothing and is no block's successor.
 fn weigh_cost(s: &[u16], area: &mut [u8], b: usize, c: usize)
-    requires { ⌜ Lent (now s) b (now area) ⌝ }
+    requires { ⌜ Ready (now s) b (now area) ⌝ }
     requires { ⌜ c ≤ b ⌝ }
     requires { ⌜ Done (now s) b (now area) c ⌝ }
     ensures { λ _. ⌜ Kept (now (s .entry)) b (now (area .entry)) (now (area .exit)) ⌝ }

@@ -1,0 +1,81 @@
+-- A build behind weighing: what weighing refuses the build refuses, and what it passes is decided by the counts and the output's length.
+-- Rests on base Orders, calls Weigh and Build, specs Within.
+use mathlib.Core.Path.{_≡_, refl, sym, ap, _∙_}
+use mathlib.Core.Bool.{Bool, true, false}
+use mathlib.Core.List.{List}
+use Prim.Native.Nat.{ℕ, zero, suc}
+use native.Mathlib.Omega.{arith}
+use lib.Dec.{ltb}
+use lib.ListN.{length}
+use Rattle.base.specs.Checks.{refused, outside}
+use Rattle.base.proofs.Orders.{over-stops, over-passes}
+use Rattle.formats.specs.GraphSheet.{header}
+use Rattle.formats.specs.BoundedSheet.{heading}
+use Rattle.calls.specs.SheetGraph.{sheetCopies, boundedSheet}
+use Rattle.calls.specs.Weigh.{Weighing, weighOrder, beforeWeighing, areaAfter, weighed}
+use Rattle.calls.specs.Build.{Lent, tooMany, smallOutput, buildOrder, outputAfter, build}
+use Rattle.calls.proofs.Weigh.{weigh-numbered}
+use Rattle.build.specs.Within.{sheetAt, answerAt, outputAt}
+
+-- answers that both come after weighing leave the same area
+same-area : (w area : List ℕ) (a c : ℕ) → beforeWeighing a ≡ false → beforeWeighing c ≡ false → areaAfter w a area ≡ areaAfter w c area
+unfolding areaAfter
+same-area w area a c p q = rw (p, q, areaAfter)
+
+module _ (w area out : List ℕ) where
+  abbrev pub lent : Lent
+  lent = record { sheet = w; area = area; output = out }
+
+  abbrev pub front : Weighing
+  front = record { sheet = w; area = area }
+
+  abbrev front-of : Lent → Weighing
+  front-of i = record { sheet = i .sheet; area = i .area }
+
+  -- WEIGHING REFUSES
+  module _ (a : ℕ) (e : weighed front .answer ≡ a) (n : a ≡ 0 → ⊥) where
+    pub refused-answer : build lent .answer ≡ a
+    unfolding build buildOrder weighed
+    refused-answer = over-stops front-of weighOrder _ lent (λ z. n (sym e ∙ z)) ∙ e
+
+    pub refused-area : build lent .area ≡ weighed front .area
+    unfolding build weighed
+    refused-area = ap (λ (x : ℕ). areaAfter w x area) (refused-answer ∙ sym e)
+
+    pub refused-output : build lent .output ≡ out
+    unfolding build outputAfter
+    refused-output = ap (λ (x : ℕ). outputAfter w x out) refused-answer ∙ kept a n
+      where
+        kept : (x : ℕ) → (x ≡ 0 → ⊥) → outputAfter w x out ≡ out
+        kept zero n = absurd (n refl)
+        kept (suc x) n = refl
+
+  -- WEIGHING PASSES
+  module _ (e : weighed front .answer ≡ 0) where
+    abbrev B : ℕ
+    B = header w .budget
+
+    pub passed-answer : build lent .answer ≡ answerAt w B (length out)
+    unfolding build buildOrder weighed answerAt refused smallOutput boundedSheet sheetCopies
+    passed-answer = over-passes front-of weighOrder _ lent weigh-numbered e
+
+    -- 10, 22 and 0 come after weighing
+    late : (x y : Bool) → beforeWeighing (elim x [ true ↦ 10 | false ↦ elim y [ true ↦ 22 | false ↦ 0 ] ]) ≡ false
+    unfolding beforeWeighing outside
+    late true y = refl
+    late false true = refl
+    late false false = refl
+
+    pub passed-area : build lent .area ≡ weighed front .area
+    unfolding build weighed answerAt beforeWeighing outside
+    passed-area =
+        same-area w area _ _
+        (ap beforeWeighing passed-answer ∙ late (tooMany (heading (sheetAt w B))) (ltb (length out) (length (sheetAt w B)))) (ap beforeWeighing e)
+
+    pub passed-output : build lent .output ≡ outputAt w B (answerAt w B (length out)) out
+    unfolding build boundedSheet sheetCopies outputAfter outputAt
+    passed-output = ap (λ (x : ℕ). outputAfter w x out) passed-answer ∙ same (answerAt w B (length out))
+      where
+        same : (x : ℕ) → outputAfter w x out ≡ outputAt w B x out
+        same zero = refl
+        same (suc x) = refl

@@ -1,0 +1,142 @@
+-- The answers of weighing, each with the work area after it.
+-- Rests on base Truth and Orders, graph_check Orders, formats Accepted, calls Weigh and Area.
+use mathlib.Core.Path.{_≡_, refl, sym, ap, subst, _∙_}
+use mathlib.Core.Bool.{Bool, true, false, not}
+use mathlib.Core.List.{List, [], _∷_}
+use mathlib.Core.Option.{Option}
+use Prim.Native.Nat.{ℕ, zero, suc, _+_, _*_, _≤_, _<_}
+use native.Mathlib.Omega.{arith}
+use native.Mathlib.Nat.{mul-le-mul}
+use native.Mathlib.Numerals.{add-one}
+use borrow.Author.Tests.{leb-true, lt-ltb, le-ltb}
+use lib.Dec.{eqb, leb}
+use lib.ListN.{length}
+use Rattle.base.specs.Lists.{all, isNone}
+use Rattle.base.specs.Checks.{Order, refused, over, outside}
+use Rattle.base.proofs.Truth.{and-e, or-l}
+use Rattle.base.proofs.Orders.{none-left, not-outside}
+use Rattle.theory.specs.Completions.{lowOf}
+use Rattle.formats.specs.Limits.{mostBudget}
+use Rattle.formats.specs.GraphSheet.{header, sheetOrder, sheetRefusal}
+use Rattle.formats.proofs.Accepted.{accepted, blocks, budget-fits}
+use Rattle.calls.specs.SheetGraph.{graph}
+use Rattle.calls.specs.Area.{areaSize, filled, Table}
+use Rattle.calls.specs.Weigh.{Weighing, sheetArea, smallArea, nothingFits, weighOrder, beforeWeighing, areaAfter, weighed}
+use Rattle.calls.proofs.Area.{filled-table}
+use Rattle.tables.specs.Tables.{optionOf}
+use Rattle.graph_check.proofs.Orders.{pick, tested, append-stops, append-passes, over-is}
+
+-- an order answers one of its numbers
+refused-most : {I : Type 0} (n : ℕ) (rs : Order I) (i : I) → all (λ r. leb (r .0) n) rs ≡ true → refused rs i ≤ n
+unfolding refused all
+refused-most n [] i e = omega arith
+refused-most {I} n (r ∷ rs) i e = go (r .1 i) (leb-true (r .0) n (p .0)) (refused-most n rs i (p .1))
+  where
+    p : (leb (r .0) n ≡ true) × (all (λ r. leb (r .0) n) rs ≡ true)
+    p = and-e (leb (r .0) n) (all (λ r. leb (r .0) n) rs) e
+
+    go : (b : Bool) → r .0 ≤ n → refused rs i ≤ n → pick b (r .0) (refused rs i) ≤ n
+    go true l m = l
+    go false l m = m
+
+-- the sheet's numbers are 1 to 8, and checked before weighing
+sheet-most : (w : List ℕ) → sheetRefusal w ≤ 8
+unfolding sheetRefusal sheetOrder all
+sheet-most w = refused-most 8 sheetOrder w refl
+
+sheet-before : (r : ℕ) → 1 ≤ r → r ≤ 8 → beforeWeighing r ≡ true
+unfolding beforeWeighing
+sheet-before r p q = or-l (eqb r 21) (ap not (not-outside 1 8 r p q))
+
+-- a look-up of block 1
+none-is : (x : ℕ) (o : Option ℕ) → optionOf x ≡ o → x ≡ 0 → isNone o ≡ true
+unfolding optionOf isNone
+none-is zero o e z = ap isNone (sym e)
+none-is (suc x) o e z = absurd (omega arith)
+
+some-is : (x : ℕ) (o : Option ℕ) → optionOf x ≡ o → (x ≡ 0 → ⊥) → isNone o ≡ false
+unfolding optionOf isNone
+some-is zero o e n = absurd (n refl)
+some-is (suc x) o e n = ap isNone (sym e)
+
+module _ (w area : List ℕ) where
+  abbrev i : Weighing
+  i = record { sheet = w; area = area }
+
+  -- an answer and an area are those of the call
+  abbrev pub Answers : ℕ → List ℕ → Type 0
+  Answers r after = (r ≡ weighed i .answer) × (after ≡ weighed i .area)
+
+  answers : (r : ℕ) {after : List ℕ} → refused weighOrder i ≡ r → after ≡ areaAfter w r area → Answers r after
+  unfolding weighed
+  answers r e q = (sym e, q ∙ ap (λ (x : ℕ). areaAfter w x area) (sym e))
+
+  stays : (r : ℕ) → beforeWeighing r ≡ true → area ≡ areaAfter w r area
+  unfolding areaAfter
+  stays r e = rw (e, areaAfter)
+
+  pub sheet-refused : {r : ℕ} → r ≡ sheetRefusal w → (r ≡ 0 → ⊥) → Answers r area
+  unfolding weighOrder sheetRefusal
+  sheet-refused {r} q n =
+      let o = over-is (λ i. i .sheet) sheetOrder i ∙ sym q in
+      answers r (append-stops (over (λ i. i .sheet) sheetOrder) _ i (λ z. n (sym o ∙ z)) ∙ o)
+      (stays r (sheet-before r (omega arith) (omega (arith, sheet-most w))))
+
+  module _ (ok : sheetRefusal w ≡ 0) where
+    answer : {s f : Bool} → smallArea i ≡ s → nothingFits w ≡ f → refused weighOrder i ≡ pick s 21 (pick f 9 0)
+    unfolding weighOrder sheetRefusal sheetOrder over all
+    answer p q =
+        append-passes (over (λ i. i .sheet) sheetOrder) _ i refl (over-is (λ i. i .sheet) sheetOrder i ∙ ok)
+        ∙ tested 21 smallArea _ i p (tested 9 (λ i. nothingFits (i .sheet)) [] i q (none-left i))
+
+    -- the code's product is the length that the sheet asks for
+    module _ {n b : ℕ} (p : n ≡ header w .blocks) (q : b ≡ header w .budget) where
+      size : n * (b + 1) ≡ areaSize (header w .blocks) b
+      unfolding areaSize
+      size = rw add-one (ap (λ (n : ℕ). n * suc b) p)
+
+      asked : n * (b + 1) ≡ sheetArea w
+      unfolding sheetArea
+      asked = size ∙ ap (areaSize (header w .blocks)) q
+
+      budget-small : b ≤ mostBudget
+      budget-small = omega (arith, budget-fits w (accepted w ok))
+
+      pub size-small : n * (b + 1) ≤ 128 * 501
+      size-small =
+          let l = blocks w (accepted w ok) in
+          let m = budget-small in
+          mul-le-mul {n₁ = n} {m₁ = b + 1} {n₂ = 128} {m₂ = 501} (omega arith) (omega arith)
+
+      pub area-refused : length area < n * (b + 1) → Answers 21 area
+      unfolding smallArea beforeWeighing outside
+      area-refused l =
+          answers 21 (answer (lt-ltb (length area) (sheetArea w) (omega (arith, asked))) refl) (stays 21 refl)
+
+      -- room enough: the area is filled, and the look-up of block 1 at the budget decides
+      module _ (room : n * (b + 1) ≤ length area) where
+        pub ready : (b ≤ mostBudget) × (areaSize (header w .blocks) b ≤ length area)
+        ready = (budget-small, omega (arith, size))
+
+        module _ {after : List ℕ} (f : after ≡ filled (graph w) (header w .blocks) b area) where
+          pub looks : Table (graph w) (header w .blocks) b after × ((b ≤ mostBudget) × (1 ≤ 1) × (1 ≤ header w .blocks) × (b ≤ b))
+          looks = (
+            subst (Table (graph w) (header w .blocks) b) (sym f) (filled-table (graph w) (header w .blocks) b area (ready .1)),
+            (budget-small, omega arith, omega (arith, blocks w (accepted w ok)), omega arith),
+          )
+
+          passes : {t : Bool} → nothingFits w ≡ t → refused weighOrder i ≡ pick t 9 0
+          unfolding smallArea
+          passes t = answer (le-ltb (length area) (sheetArea w) (omega (arith, asked))) t
+
+          changes : (r : ℕ) → beforeWeighing r ≡ false → after ≡ areaAfter w r area
+          unfolding areaAfter
+          changes r t = rw (t, areaAfter) (f ∙ ap (λ (b : ℕ). filled (graph w) (header w .blocks) b area) q)
+
+          pub nothing-fits : {x : ℕ} → optionOf x ≡ lowOf (graph w) 1 b → x ≡ 0 → Answers 9 after
+          unfolding nothingFits beforeWeighing outside
+          nothing-fits {x} e z = answers 9 (passes (none-is x _ (e ∙ ap (lowOf (graph w) 1) q) z)) (changes 9 refl)
+
+          pub something-fits : {x : ℕ} → optionOf x ≡ lowOf (graph w) 1 b → (x ≡ 0 → ⊥) → Answers 0 after
+          unfolding nothingFits beforeWeighing outside
+          something-fits {x} e n = answers 0 (passes (some-is x _ (e ∙ ap (lowOf (graph w) 1) q) n)) (changes 0 refl)

@@ -1,0 +1,31 @@
+// A public call: conditions 1 to 8, 21 and 9 in order, and the work area filled where 1 to 8 and 21 pass.
+// Rests on graph_check, weigh and look; the promise is calls Weigh.
+ghost use mathlib.Core.Path.{_≡_};
+ghost use Rattle.calls.specs.Weigh.{weighed};
+use graph_check::check_graph;
+use graph_words::blocks;
+use graph_words::budget;
+use look::look_up;
+use weigh::weigh;
+
+// The first condition of 1 to 8, 21 and 9 that holds, 0 where none does.
+pub fn weigh_sheet(s: &[u16], area: &mut [u8]) -> u16
+    ensures { λ r. ⌜ r ≡ weighed (record { sheet = now (s .entry); area = now (area .entry) }) .answer ⌝ }
+    ensures { λ _. ⌜ now (area .exit) ≡ weighed (record { sheet = now (s .entry); area = now (area .entry) }) .area ⌝ }
+{
+    let a = check_graph(s);
+    if a != 0 {
+        return a;
+    }
+    let n = blocks(s);
+    let b = budget(s);
+    if area.len() < n * (b + 1) {
+        return 21;
+    }
+    weigh(s, area, b);
+    let x = look_up(s, area, b, 1, b);
+    if x.low == 0 {
+        return 9;
+    }
+    0
+}
