@@ -1,17 +1,17 @@
 -- The row of a block by rising numbers of cycles, and the rows block by block.
--- Rests on theory Completions, calls Area, specs Rows, Stored.
+-- Rests on theory Completions, calls Area, cells Cells, specs Rows, Stored.
 use mathlib.Core.Path.{_≡_, refl, sym, ap, subst, _∙_}
 use mathlib.Core.Bool.{Bool, true, false}
 use mathlib.Core.List.{List}
-use mathlib.Core.Option.{Option, some, none}
-use Prim.Native.Nat.{ℕ, zero, suc, _+_, _≤_, _<_}
+use mathlib.Core.Option.{Option, none}
+use Prim.Native.Nat.{ℕ, zero, suc, _≤_, _<_}
 use native.Mathlib.Omega.{arith}
 use native.Mathlib.Decide.{ℕ-discrete}
 use native.Mathlib.Nat.{mul-le-mul-right}
 use lib.ListN.{length, getD, set, length-set}
-use Rattle.theory.specs.Completions.{Graph, completes, largest, lowOf}
-use Rattle.calls.specs.Area.{cellOf, areaSize, stands, Table}
+use Rattle.theory.specs.Completions.{Graph, largest, lowOf}
 use Rattle.theory.proofs.Completions.{largest-self}
+use Rattle.calls.specs.Area.{cellOf, areaSize, stands, Table}
 use Rattle.cells.proofs.Cells.{cell-inside}
 use Rattle.tables.specs.Tables.{optionOf, Lows}
 use Rattle.lows.specs.Rows.{latest, Filled, RowFilled}
@@ -43,7 +43,8 @@ largest-agree f h (suc r) e = go (h (suc r)) refl (largest-agree f h r (λ c l. 
     go true p q = rw (e (suc r) (omega arith) ∙ p, p, largest)
     go false p q = rw (e (suc r) (omega arith) ∙ p, p, largest) q
 
-latest-small : (last r : ℕ) (h : Bool) → last ≤ r → latest last r h ≤ suc r
+-- an entry is small enough for a word
+pub latest-small : (last r : ℕ) (h : Bool) → last ≤ r → latest last r h ≤ suc r
 unfolding latest
 latest-small last r true l = omega arith
 latest-small last r false l = omega arith
@@ -55,6 +56,10 @@ pub record Filling (area : List ℕ) (b v : ℕ) (lows₀ lows : List ℕ) (last
   pub ends : optionOf last ≡ under (stands b area v) r
   pub below : (d : ℕ) → d < r → optionOf (getD lows (cellOf b v d) 0) ≡ largest (stands b area v) d
   pub kept : (u d : ℕ) → 1 ≤ u → (u ≡ v → ⊥) → d ≤ b → getD lows (cellOf b u d) 0 ≡ getD lows₀ (cellOf b u d) 0
+
+-- a row lies where the rows up to it have room
+pub in-row : (b v r k : ℕ) → 1 ≤ v → r ≤ b → areaSize v b ≤ k → cellOf b v r < k
+in-row b v r k p l h = omega (arith, cell-inside b v v r p (omega arith) l)
 
 module _ {area : List ℕ} {b v : ℕ} where
   pub row-start : (lows : List ℕ) → Filling area b v lows lows 0 0
@@ -68,6 +73,7 @@ module _ {area : List ℕ} {b v : ℕ} where
   }
 
   module _ {lows₀ lows : List ℕ} {last r : ℕ} (F : Filling area b v lows₀ lows last r) where
+    -- one turn fills the entry of r
     pub row-on : 1 ≤ v → r ≤ b → areaSize v b ≤ length lows₀ → {hit : Bool} {x : ℕ} {lows′ : List ℕ} → hit ≡ stands b area v r
         → x ≡ latest last r hit → lows′ ≡ set lows (cellOf b v r) x → (q : ℕ) → q ≡ suc r → Filling area b v lows₀ lows′ x q
     unfolding under
@@ -84,7 +90,7 @@ module _ {area : List ℕ} {b v : ℕ} where
         now = ap optionOf i ∙ latest-is (stands b area v) last r hit (sym h) (F .ends)
 
         inside : cellOf b v r < length lows
-        inside = omega (arith, cell-inside b v v r p (omega arith) l, F .size)
+        inside = in-row b v r (length lows) p l (omega (arith, F .size))
 
         go : (d : ℕ) → d < suc r → Dec (d ≡ r) → optionOf (getD lows′ (cellOf b v d) 0) ≡ largest (stands b area v) d
         go d k (yes z) =
@@ -107,7 +113,7 @@ pub record AllFilled (area : List ℕ) (n b : ℕ) (lows₀ lows : List ℕ) (v 
   pub range : (1 ≤ v) × (v ≤ suc n)
   pub rows : (u : ℕ) → 1 ≤ u → u < v → Filled area b u lows
 
--- a row is as long as the rows of all blocks allow
+-- where the rows of all blocks have room, those up to v have
 pub row-fits : (n b v k : ℕ) → v ≤ n → areaSize n b ≤ k → areaSize v b ≤ k
 unfolding areaSize
 row-fits n b v k l h = omega (arith, mul-le-mul-right {m = v} {n = n} (suc b) l)

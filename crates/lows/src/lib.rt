@@ -1,18 +1,17 @@
 // The look-up as a row: the largest completion cost at or below each number of cycles, read off the work area once.
 // Rests on graph_words, cells, tables. A look-up is then one read (tables `entry`). Below the public calls.
 ghost use mathlib.Core.Path.{_≡_};
-ghost use Prim.Native.Nat.{ℕ, suc, _<_, _≤_};
+ghost use Prim.Native.Nat.{_≤_};
 ghost use lib.ListN.{length};
 ghost use Rattle.formats.specs.Limits.{mostBlocks, mostBudget};
 ghost use Rattle.formats.specs.GraphSheet.{header, sheetRefusal};
 ghost use Rattle.calls.specs.SheetGraph.{graph};
-ghost use Rattle.calls.specs.Area.{cellOf, areaSize, Table};
+ghost use Rattle.calls.specs.Area.{areaSize, Table};
 ghost use Rattle.tables.specs.Tables.{Lows};
 ghost use Rattle.lows.specs.Rows.{latest, RowFilled};
-
-use graph_words::{blocks};
-use cells::{is_set};
-use tables::{put_entry};
+use cells::is_set;
+use graph_words::blocks;
+use tables::put_entry;
 
 // One more than the last cost that is set, after the cost r: r is the last where it is set.
 fn later(last: usize, r: usize, hit: bool) -> usize

@@ -1,0 +1,3 @@
+-- What the contracts below `reach` cite.
+-- Rests on theory Completions, formats GraphSheet, calls SheetGraph and Area, tables Tables.
+pub mod Marks
