@@ -7,12 +7,14 @@ use Prim.Native.Nat.{ℕ, zero, suc, _+_, _*_, _≤_, _<_}
 use native.Mathlib.Omega.{arith}
 use borrow.Author.Tests.{lt-ltb, le-ltb}
 use lib.Dec.{ltb}
-use lib.ListN.{length, drop, length-append}
+use lib.ListN.{length, length-append, length-map}
 use Rattle.base.proofs.Truth.{or-l, or-r}
 use Rattle.formats.specs.Limits.{mostCopies, mostBoundedEdges}
 use Rattle.formats.specs.BoundedSheet.{Row, edgeCount, copyWords, edgeWords, sheetWords, heading}
 use Rattle.formats.proofs.Reading.{copyWords-length, edgeWords-length}
+use Rattle.calls.specs.SheetGraph.{graph, rowOf, rowsOf}
 use Rattle.calls.specs.Build.{tooMany}
+use Rattle.tables.specs.Tables.{sheetCopiesAt}
 use Rattle.build.specs.Within.{rowsAt, sheetAt, answerAt}
 
 -- the length of a written sheet
@@ -48,3 +50,8 @@ module _ (w : List ℕ) (b n : ℕ) where
     pub long-row : length (sheetAt w b) ≤ n → answerAt w b n ≡ 0
     unfolding answerAt
     long-row l = rw (few-and-thin, le-ltb n (length (sheetAt w b)) l, answerAt)
+
+-- a row for each copy
+pub rows-count : (w : List ℕ) (b : ℕ) → length (rowsAt w b) ≡ length (sheetCopiesAt w b)
+unfolding rowsOf
+rows-count w b = length-map (sheetCopiesAt w b) (rowOf (graph w) (sheetCopiesAt w b))

@@ -2,3 +2,5 @@
 pub mod Answers
 -- a build behind weighing: refused-answer, passed-answer, ..
 pub mod Front
+-- what weighing's answer 0 gives: is-accepted, has-table, ..
+pub mod Passed

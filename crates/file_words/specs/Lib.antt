@@ -1,0 +1,3 @@
+-- How much of a file a program has to read.
+-- Rests on formats.
+pub mod Longer

@@ -1,0 +1,35 @@
+// A file's bytes as words: "In a file each word is two bytes, lower byte first".
+// Rests on formats File.
+ghost use mathlib.Core.Path.{_≡_};
+ghost use mathlib.Core.List.{_++_};
+ghost use Prim.Native.Nat.{_+_, _*_, _/_, _≤_};
+ghost use lib.ListN.{length, drop};
+ghost use Rattle.formats.specs.File.{wordsOf};
+use graph_words::HEADER_WORDS;
+use graph_words::MOST_BLOCKS;
+use graph_words::MOST_EDGES;
+
+// The bytes of one word more than the longest graph sheet has: a longer file is answered by as many of its bytes (proofs LongFile).
+pub const LONGER_FILE: usize = 2 * (HEADER_WORDS + 2 * MOST_BLOCKS + 2 * MOST_EDGES + 1);
+
+// A word from its two bytes.
+fn joined(lower: u8, higher: u8) -> u16
+    ensures { λ r. ⌜ r ≡ lower + 256 * higher ⌝ }
+{
+    lower as u16 + 256 * (higher as u16)
+}
+
+// Writes the words of a file's bytes to the front of a row, and answers how many; an odd last byte is no word.
+pub fn words_of(bytes: &[u8], words: &mut [u16]) -> usize
+    requires { ⌜ length (now bytes) / 2 ≤ length (now words) ⌝ }
+    ensures { λ r. ⌜ r ≡ length (now (bytes .entry)) / 2 ⌝ }
+    ensures { λ r. ⌜ now (words .exit) ≡ wordsOf (now (bytes .entry)) ++ drop r (now (words .entry)) ⌝ }
+{
+    let n = bytes.len() / 2;
+    let mut i = 0;
+    while i < n {
+        words[i] = joined(bytes[2 * i], bytes[2 * i + 1]);
+        i += 1;
+    }
+    n
+}

@@ -1,0 +1,75 @@
+// Public calls: the edge words of one copy of a bounded sheet, handed back as a part of the caller's slice, and their answer.
+// Rests on bounded_check, bounded_words; the promises are equations with formats Rule11.
+ghost use mathlib.Core.Path.{_≡_};
+ghost use Prim.Native.Nat.{_<_, _≤_};
+ghost use lib.ListN.{length};
+ghost use Rattle.formats.specs.Limits.{wordLimit};
+ghost use Rattle.formats.specs.BoundedSheet.{heading, chainAt, edgePart};
+ghost use Rattle.formats.specs.Rule11.{boundedRefusal, handOut};
+use bounded_check::check_bounded;
+use bounded_words::copies;
+use bounded_words::edges;
+use bounded_words::first_at;
+use bounded_words::is_outside;
+use bounded_words::next_at;
+use graph_words::HEADER_WORDS;
+
+// 11 where the sheet breaks rule 11, then 33 for a copy outside 1 to C, else 0.
+pub fn edge_words_answer(s: &[u16], i: u16) -> u16
+    ensures { λ r. ⌜ r ≡ handOut (now (s .entry)) i .answer ⌝ }
+{
+    let a = check_bounded(s);
+    if a != 0 {
+        return a;
+    }
+    let n = copies(s);
+    if is_outside(1, n, i as usize) {
+        return 33;
+    }
+    0
+}
+
+// The number of edges of copy i, counted down its chain, in a sheet that keeps rule 11.
+fn count_edges(s: &[u16], i: usize) -> usize
+    requires { ⌜ boundedRefusal (now s) ≡ 0 ⌝ }
+    requires { ⌜ (1 ≤ i) × (i ≤ heading (now s) .copies) ⌝ }
+    ensures { λ r. ⌜ (r ≡ length (chainAt (heading (now (s .entry))) (now (s .entry)) i)) × (r < wordLimit) ⌝ }
+{
+    let m = edges(s);
+    let mut e = first_at(s, i);
+    let mut count = 0;
+    while count <= m {
+        if e == 0 {
+            return count;
+        }
+        e = next_at(s, e);
+        count += 1;
+    }
+    count
+}
+
+// The edge records of copy i, two words each, in a sheet that keeps rule 11.
+fn edge_part(s: &[u16], i: usize) -> &[u16]
+    requires { ⌜ boundedRefusal (now s) ≡ 0 ⌝ }
+    requires { ⌜ (1 ≤ i) × (i ≤ heading (now s) .copies) ⌝ }
+    ensures { λ r. ⌜ now r ≡ edgePart (now (s .entry)) i ⌝ }
+{
+    let n = copies(s);
+    let first = first_at(s, i);
+    if first == 0 {
+        return &s[0..0];
+    }
+    let count = count_edges(s, i);
+    let start = HEADER_WORDS + 3 * n + 2 * (first - 1);
+    &s[start..start + 2 * count]
+}
+
+// The edge records of copy i; empty for the exit and under a refusal.
+pub fn edge_words(s: &[u16], i: u16) -> &[u16]
+    ensures { λ r. ⌜ now r ≡ handOut (now (s .entry)) i .words ⌝ }
+{
+    if edge_words_answer(s, i) != 0 {
+        return &s[0..0];
+    }
+    edge_part(s, i as usize)
+}

@@ -1,0 +1,14 @@
+-- what is written so far, then the rest, is the whole: wrote-then; due-start, due-room, due-step, due-end
+pub mod Due
+-- decimal digits, and how many there are: decimal-one, decimal-more, digits-4
+pub mod Decimals
+-- lines, part by part: heading-is, copy-is, refusal-is
+pub mod Lines
+-- what rule 11 gives, number by number: chain-inside, block-most, low-most, target-most
+pub mod Kept
+-- the texts have room: listing-fits, refusal-fits
+pub mod Room
+-- a copy's targets down its chain: going-begins, going-on, chain-ends
+pub mod Targets
+-- the copies' lines: lines-begin, lines-on, lines-end
+pub mod Copies

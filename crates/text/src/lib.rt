@@ -1,0 +1,173 @@
+// The text of a listing, written into a lent row of bytes.
+// Rests on bounded_words; the promises are equations with formats Listing.
+ghost use mathlib.Core.Path.{_≡_};
+ghost use mathlib.Core.List.{[], _∷_, _++_};
+ghost use Prim.Native.Nat.{_+_, _<_, _≤_};
+ghost use lib.ListN.{length, take};
+ghost use Rattle.formats.specs.BoundedSheet.{heading};
+ghost use Rattle.formats.specs.Rule11.{boundedRefusal};
+ghost use Rattle.formats.specs.Listing.{decimal, headingLine, copyLine, listingOf, refusalOf};
+ghost use Rattle.text.specs.Wrote.{Wrote};
+ghost use Rattle.text.specs.Texts.{listingRoom, refusalRoom, spaced, targetsText, copyLines};
+use bounded_words::MOST_BOUNDED_EDGES;
+use bounded_words::MOST_COPIES;
+use bounded_words::block_at;
+use bounded_words::budget;
+use bounded_words::copies;
+use bounded_words::edges;
+use bounded_words::first_at;
+use bounded_words::low_at;
+use bounded_words::next_at;
+use bounded_words::target_at;
+
+// The room that the text of any bounded sheet, and of any refusal, takes.
+pub const TEXT_SIZE: usize = 34 + 13 * MOST_COPIES + 5 * MOST_BOUNDED_EDGES;
+
+pub const REFUSAL_SIZE: usize = 14;
+
+const SPACE: u8 = 32;
+
+const NEWLINE: u8 = 10;
+
+const DIGIT_ZERO: usize = 48;
+
+// Writes one byte; the place behind it.
+fn put_byte(text: &mut [u8], at: usize, byte: u8) -> usize
+    requires { ⌜ at < length (now text) ⌝ }
+    ensures { λ r. ⌜ Wrote (now (text .entry)) at (byte ∷ []) (now (text .exit)) r ⌝ }
+{
+    text[at] = byte;
+    at + 1
+}
+
+// Writes a row of bytes.
+fn put_bytes(text: &mut [u8], at: usize, bytes: &[u8]) -> usize
+    requires { ⌜ at + length (now bytes) ≤ length (now text) ⌝ }
+    ensures { λ r. ⌜ Wrote (now (text .entry)) at (now (bytes .entry)) (now (text .exit)) r ⌝ }
+{
+    let mut p = at;
+    let mut i = 0;
+    while i < bytes.len() {
+        p = put_byte(text, p, bytes[i]);
+        i += 1;
+    }
+    p
+}
+
+// Writes a number in decimal digits: those of its tenth, then the last.
+fn put_decimal(text: &mut [u8], at: usize, n: usize) -> usize
+    requires { ⌜ at + length (decimal n) ≤ length (now text) ⌝ }
+    ensures { λ r. ⌜ Wrote (now (text .entry)) at (decimal n) (now (text .exit)) r ⌝ }
+{
+    if n < 10 {
+        return put_byte(text, at, (DIGIT_ZERO + n) as u8);
+    }
+    let p = put_decimal(text, at, n / 10);
+    put_byte(text, p, (DIGIT_ZERO + n % 10) as u8)
+}
+
+// Writes a space and a number.
+fn put_number(text: &mut [u8], at: usize, n: usize) -> usize
+    requires { ⌜ at + length (spaced n) ≤ length (now text) ⌝ }
+    ensures { λ r. ⌜ Wrote (now (text .entry)) at (spaced n) (now (text .exit)) r ⌝ }
+{
+    let p = put_byte(text, at, SPACE);
+    put_decimal(text, p, n)
+}
+
+// Writes a name, a space and a number.
+fn put_named(text: &mut [u8], at: usize, name: &[u8], n: usize) -> usize
+    requires { ⌜ at + length (now name ++ spaced n) ≤ length (now text) ⌝ }
+    ensures { λ r. ⌜ Wrote (now (text .entry)) at (now (name .entry) ++ spaced n) (now (text .exit)) r ⌝ }
+{
+    let p = put_bytes(text, at, name);
+    put_number(text, p, n)
+}
+
+// Writes the heading: C, F and B.
+fn write_heading(s: &[u16], text: &mut [u8]) -> usize
+    requires { ⌜ 3 ≤ length (now s) ⌝ }
+    requires { ⌜ length (headingLine (now s)) ≤ length (now text) ⌝ }
+    ensures { λ r. ⌜ Wrote (now (text .entry)) 0 (headingLine (now (s .entry))) (now (text .exit)) r ⌝ }
+{
+    let c = copies(s);
+    let f = edges(s);
+    let b = budget(s);
+    let x = put_named(text, 0, b"copies", c);
+    let y = put_named(text, x, b" edges", f);
+    let z = put_named(text, y, b" budget", b);
+    put_byte(text, z, NEWLINE)
+}
+
+// Writes the targets of copy i in chain order.
+fn write_targets(s: &[u16], text: &mut [u8], at: usize, i: usize) -> usize
+    requires { ⌜ boundedRefusal (now s) ≡ 0 ⌝ }
+    requires { ⌜ (1 ≤ i) × (i ≤ heading (now s) .copies) ⌝ }
+    requires { ⌜ at + length (targetsText (now s) i) ≤ length (now text) ⌝ }
+    ensures { λ r. ⌜ Wrote (now (text .entry)) at (targetsText (now (s .entry)) i) (now (text .exit)) r ⌝ }
+{
+    let mut p = at;
+    let mut e = first_at(s, i);
+    let mut k = edges(s) + 1;
+    while 0 < k {
+        if e == 0 {
+            return p;
+        }
+        let t = target_at(s, e);
+        p = put_number(text, p, t);
+        e = next_at(s, e);
+        k -= 1;
+    }
+    p
+}
+
+// Writes the line of copy i: its number, block, low and targets.
+fn write_copy(s: &[u16], text: &mut [u8], at: usize, i: usize) -> usize
+    requires { ⌜ boundedRefusal (now s) ≡ 0 ⌝ }
+    requires { ⌜ (1 ≤ i) × (i ≤ heading (now s) .copies) ⌝ }
+    requires { ⌜ at + length (copyLine (now s) i) ≤ length (now text) ⌝ }
+    ensures { λ r. ⌜ Wrote (now (text .entry)) at (copyLine (now (s .entry)) i) (now (text .exit)) r ⌝ }
+{
+    let v = block_at(s, i);
+    let l = low_at(s, i);
+    let x = put_decimal(text, at, i);
+    let y = put_number(text, x, v);
+    let z = put_number(text, y, l);
+    let p = write_targets(s, text, z, i);
+    put_byte(text, p, NEWLINE)
+}
+
+// Writes the lines of all copies.
+fn write_copies(s: &[u16], text: &mut [u8], at: usize) -> usize
+    requires { ⌜ boundedRefusal (now s) ≡ 0 ⌝ }
+    requires { ⌜ at + length (copyLines (now s)) ≤ length (now text) ⌝ }
+    ensures { λ r. ⌜ Wrote (now (text .entry)) at (copyLines (now (s .entry))) (now (text .exit)) r ⌝ }
+{
+    let n = copies(s);
+    let mut p = at;
+    let mut i = 1;
+    while i <= n {
+        p = write_copy(s, text, p, i);
+        i += 1;
+    }
+    p
+}
+
+// Writes the listing of a bounded sheet, and answers its length.
+pub fn write_listing(s: &[u16], text: &mut [u8]) -> usize
+    requires { ⌜ boundedRefusal (now s) ≡ 0 ⌝ }
+    requires { ⌜ listingRoom ≤ length (now text) ⌝ }
+    ensures { λ r. ⌜ (take r (now (text .exit)) ≡ listingOf (now (s .entry))) × (r ≤ length (now (text .exit))) ⌝ }
+{
+    let p = write_heading(s, text);
+    write_copies(s, text, p)
+}
+
+// Writes the text of a refusal, and answers its length.
+pub fn write_refusal(n: u16, text: &mut [u8]) -> usize
+    requires { ⌜ refusalRoom ≤ length (now text) ⌝ }
+    ensures { λ r. ⌜ (take r (now (text .exit)) ≡ refusalOf n) × (r ≤ length (now (text .exit))) ⌝ }
+{
+    let p = put_named(text, 0, b"refused", n as usize);
+    put_byte(text, p, NEWLINE)
+}
