@@ -8,3 +8,5 @@ pub mod Copies
 pub mod Orders
 -- different numbers from 1 to n are at most n
 pub mod Pigeonhole
+-- a search by a loop over 1 to n: begin, found, onward, none
+pub mod Search

@@ -7,7 +7,7 @@ use Prim.Native.Nat.{ℕ, _+_, _≤_, _<_}
 use native.Mathlib.Omega.{arith}
 use lib.ListN.{length}
 use Rattle.base.specs.Lists.{any, keep, from}
-use Rattle.graph_check.proofs.Search.{upto, upto-one, upto-more, upto-end}
+use Rattle.base.proofs.Search.{upto, upto-one, upto-more, upto-end}
 
 -- one that is kept passes a test
 pub any-keep : {A : Type 0} (f g : A → Bool) (xs : List A) → any f (keep g xs) ≡ any (λ x. g x && f x) xs

@@ -11,8 +11,8 @@ use borrow.Author.Tests.{eq-eqb, ne-eqb}
 use Rattle.base.specs.Lists.{each, from, equal}
 use Rattle.formats.specs.BoundedSheet.{heading, firstAt, nextAt, chainAt}
 use Rattle.formats.specs.Rule11.{badEdgeOrder}
-use Rattle.graph_check.proofs.Search.{upto, upto-one, upto-more, upto-end}
-use Rattle.graph_check.proofs.Chains.{follow-end, follow-more}
+use Rattle.base.proofs.Search.{upto, upto-one, upto-more, upto-end}
+use Rattle.formats.proofs.Chains.{follow-end, follow-more}
 use Rattle.bounded_check.specs.Chains.{chainFrom, edgesFrom, Consecutive}
 
 module _ (s : List ℕ) where

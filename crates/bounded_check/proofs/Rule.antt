@@ -10,7 +10,7 @@ use Rattle.base.proofs.Truth as truth
 use Rattle.formats.specs.BoundedSheet.{heading}
 use Rattle.formats.specs.Rule11.{tooShort, badLimits, wrongLength, largeBudget, badBlocks, badLows, badCopyOrder}
 use Rattle.formats.specs.Rule11.{notOneOf, badExit, badEdgeOrder, badTargetWords, boundedOrder, boundedRefusal}
-use Rattle.graph_check.proofs.Orders.{pick}
+use Rattle.base.proofs.Orders.{pick}
 use Rattle.bounded_words.specs.Formed.{Formed}
 use Rattle.bounded_words.proofs.Formed.{formed}
 use Rattle.bounded_check.specs.Parts.{badForm, badCopies, badEdges}

@@ -27,7 +27,7 @@ use Rattle.calls.specs.Area.{areaSize, marks, byteOf, bytes, filled}
 use Rattle.calls.specs.Weigh.{sheetArea, smallArea, nothingFits, weighOrder, beforeWeighing, areaAfter}
 use Rattle.calls.specs.Build.{tooMany, smallOutput, buildOrder, outputAfter, build}
 use Rattle.calls.specs.Moves.{outOfShape, unless, monitoredOrder, monitoredReply, monitoredMove, boundedMoveOrder, boundedMove}
-use Rattle.calls.specs.Program.{fileOrder, listing}
+use Rattle.calls.specs.Program.{listingOrder, sheetListing, listing}
 use Rattle.calls.specs.Cases.{Case, endNumber, sheetShown, outcome}
 use Rattle.formats.specs.Samples.{paper, loop, twice, least, six, inBytes}
 use Rattle.calls.specs.Examples.{examples}
@@ -53,7 +53,7 @@ unfolding examples paper loop twice least inBytes
     badExit badEdgeOrder badTargetWords boundedOrder boundedRefusal
     wordOf wordsOf oddBytes digits decimal line headingLine copyLine listingOf refusalOf
     graph sheetCopies rowOf rowsOf boundedSheet areaSize sheetArea
-    smallArea nothingFits weighOrder tooMany smallOutput buildOrder build fileOrder listing sheetShown outcome
+    smallArea nothingFits weighOrder tooMany smallOutput buildOrder build listingOrder sheetListing listing sheetShown outcome
 starred = refl
 
 pub pinned : Pinned refusals
@@ -70,21 +70,21 @@ unfolding refusals six loop least inBytes
     wordOf wordsOf oddBytes digits decimal line headingLine copyLine listingOf refusalOf
     graph sheetCopies rowOf rowsOf boundedSheet readBounded marks byteOf bytes areaSize filled sheetArea
     smallArea nothingFits weighOrder beforeWeighing areaAfter tooMany smallOutput buildOrder outputAfter build
-    outOfShape unless monitoredOrder monitoredReply monitoredMove boundedMoveOrder boundedMove fileOrder listing endNumber outcome
+    outOfShape unless monitoredOrder monitoredReply monitoredMove boundedMoveOrder boundedMove listingOrder sheetListing listing endNumber outcome
 pinned = refl
 
 -- each order's numbers, as document 01 lists them; no sheet small enough to compute passes the limits of 10, so its place and its limits
 -- stand here
 pub orders : numbersOf buildOrder ∷ numbersOf monitoredOrder ∷ numbersOf boundedMoveOrder ∷ numbersOf partOrder ∷ numbersOf countOrder
-    ∷ numbersOf fileOrder ∷ []
+    ∷ numbersOf listingOrder ∷ []
     ≡ (1 ∷ 2 ∷ 3 ∷ 4 ∷ 5 ∷ 6 ∷ 7 ∷ 8 ∷ 21 ∷ 9 ∷ 10 ∷ 22 ∷ [])
     ∷ (1 ∷ 2 ∷ 3 ∷ 4 ∷ 5 ∷ 6 ∷ 7 ∷ 8 ∷ 21 ∷ 9 ∷ 33 ∷ [])
     ∷ (replicate 12 11 ++ (33 ∷ []))
     ∷ (replicate 12 11 ++ (33 ∷ []))
     ∷ (1 ∷ 2 ∷ 3 ∷ 4 ∷ 5 ∷ 6 ∷ 7 ∷ 8 ∷ 33 ∷ [])
-    ∷ (1 ∷ 1 ∷ 2 ∷ 3 ∷ 4 ∷ 5 ∷ 6 ∷ 7 ∷ 8 ∷ 9 ∷ 10 ∷ [])
+    ∷ (1 ∷ 2 ∷ 3 ∷ 4 ∷ 5 ∷ 6 ∷ 7 ∷ 8 ∷ 9 ∷ 10 ∷ [])
     ∷ []
-unfolding over sheetOrder boundedOrder weighOrder buildOrder monitoredOrder boundedMoveOrder partOrder countOrder fileOrder
+unfolding over sheetOrder boundedOrder weighOrder buildOrder monitoredOrder boundedMoveOrder partOrder countOrder listingOrder
 orders = refl
 
 pub largest-sheets : map (λ (p : ℕ × ℕ). tooMany (record { copies = p .0; edges = p .1; budget = 0; records = 3 }))

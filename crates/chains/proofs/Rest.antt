@@ -9,32 +9,10 @@ use Rattle.base.specs.Lists.{any}
 use Rattle.base.proofs.Orders.{not-outside}
 use Rattle.formats.specs.Words.{follow}
 use Rattle.formats.specs.GraphSheet.{header, firstWord, targetWord, nextWord, chain, successors, sheetRefusal}
+use Rattle.formats.proofs.Chains.{follow-end, follow-out, follow-more}
 use Rattle.formats.proofs.Accepted.{accepted, edge-inside}
 use Rattle.calls.specs.SheetGraph.{graph}
 use Rattle.chains.specs.Rest.{edgesFrom, targetsFrom, Rest, AnyRest}
-
--- the edges that are left: none at 0, none without turns, else the edge and those behind it
-module _ (w : List ℕ) (k e : ℕ) where
-  pub none-at-zero : e ≡ 0 → edgesFrom w k e ≡ []
-  unfolding follow
-  none-at-zero z = rw z (go k)
-    where
-      go : (k : ℕ) → edgesFrom w k 0 ≡ []
-      go zero = refl
-      go (suc k) = refl
-
-  pub none-without-turns : k ≡ 0 → edgesFrom w k e ≡ []
-  unfolding follow
-  none-without-turns z = rw z
-
-  pub one-and-rest : 0 < k → (e ≡ 0 → ⊥) → edgesFrom w k e ≡ e ∷ edgesFrom w (k - 1) (nextWord (header w) w e)
-  unfolding follow
-  one-and-rest l n = go k e l n
-    where
-      go : (k e : ℕ) → 0 < k → (e ≡ 0 → ⊥) → edgesFrom w k e ≡ e ∷ edgesFrom w (k - 1) (nextWord (header w) w e)
-      go zero e l n = absurd (omega arith)
-      go (suc k) zero l n = absurd (n refl)
-      go (suc k) (suc e) l n = let p : suc k - 1 ≡ k = omega arith in rw p
 
 module _ (w : List ℕ) (ok : sheetRefusal w ≡ 0) (v : ℕ) (low : 1 ≤ v) (high : v ≤ header w .blocks) where
   -- a block's successors are the targets of its chain
@@ -57,7 +35,7 @@ module _ (w : List ℕ) (ok : sheetRefusal w ≡ 0) (v : ℕ) (low : 1 ≤ v) (h
   -- ONE TURN
   module _ (k e : ℕ) (r : Rest w v k e) (l : 0 < k) (n : e ≡ 0 → ⊥) where
     on-chain : List·Memᴰ e (chain (header w) w v)
-    on-chain = r .part e (subst (List·Memᴰ e) (sym (one-and-rest w k e l n)) (List·Memᴰ·head refl))
+    on-chain = r .part e (subst (List·Memᴰ e) (sym (follow-more (nextWord (header w) w) k e l n)) (List·Memᴰ·head refl))
 
     pub edge-fits : (1 ≤ e) × (e ≤ header w .edges)
     edge-fits = edge-inside w (accepted w ok) v e low high on-chain
@@ -69,7 +47,7 @@ module _ (w : List ℕ) (ok : sheetRefusal w ≡ 0) (v : ℕ) (low : 1 ≤ v) (h
         (subst (List·Memᴰ _) (sym successors-are) (Memᴰ·map (targetWord (header w) w) on-chain))
 
     behind : (x : ℕ) → x ≡ nextWord (header w) w e → edgesFrom w k e ≡ e ∷ edgesFrom w (k - 1) x
-    behind x j = one-and-rest w k e l n ∙ ap (λ (y : ℕ). e ∷ edgesFrom w (k - 1) y) (sym j)
+    behind x j = follow-more (nextWord (header w) w) k e l n ∙ ap (λ (y : ℕ). e ∷ edgesFrom w (k - 1) y) (sym j)
 
     pub rest-on : (x : ℕ) → x ≡ nextWord (header w) w e → Rest w v (k - 1) x
     rest-on x j = record { part = λ y m. r .part y (subst (List·Memᴰ y) (sym (behind x j)) (List·Memᴰ·tail m)) }
@@ -86,11 +64,11 @@ module _ (w : List ℕ) (ok : sheetRefusal w ≡ 0) (v : ℕ) (low : 1 ≤ v) (h
     module _ (k e : ℕ) (r : AnyRest w f v k e) where
       pub any-end : e ≡ 0 → any f (graph w .next v) ≡ false
       unfolding any
-      any-end z = r .same ∙ ap (λ (l : List ℕ). any f (map (targetWord (header w) w) l)) (none-at-zero w k e z)
+      any-end z = r .same ∙ ap (λ (l : List ℕ). any f (map (targetWord (header w) w) l)) (follow-end (nextWord (header w) w) k e z)
 
       pub any-out : k ≡ 0 → any f (graph w .next v) ≡ false
       unfolding any
-      any-out z = r .same ∙ ap (λ (l : List ℕ). any f (map (targetWord (header w) w) l)) (none-without-turns w k e z)
+      any-out z = r .same ∙ ap (λ (l : List ℕ). any f (map (targetWord (header w) w) l)) (follow-out (nextWord (header w) w) k e z)
 
       module _ (l : 0 < k) (n : e ≡ 0 → ⊥) (t : ℕ) (i : t ≡ targetWord (header w) w e) where
         pub any-hit : f t ≡ true → any f (graph w .next v) ≡ true

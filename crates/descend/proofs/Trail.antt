@@ -13,7 +13,8 @@ use Rattle.calls.specs.Area.{cellOf}
 use Rattle.cells.specs.Cells.{Within}
 use Rattle.tables.specs.Tables.{optionOf}
 use Rattle.chains.specs.Rest.{edgesFrom, targetsFrom, Rest}
-use Rattle.chains.proofs.Rest.{none-at-zero, none-without-turns, rest-start, rest-on, targets-start, targets-on, edge-fits, is-successor}
+use Rattle.formats.proofs.Chains.{follow-end, follow-out}
+use Rattle.chains.proofs.Rest.{rest-start, rest-on, targets-start, targets-on, edge-fits, is-successor}
 use Rattle.descend.specs.Marks.{Due, Met, AllDue, AllMet, Ready, Grown}
 use Rattle.descend.proofs.Copies.{look-cell, look-up, look-small, successor-fits}
 use Rattle.descend.proofs.Marks.{met-grows, grown-same, grown-then}
@@ -46,10 +47,10 @@ module _ {w : List ℕ} {b : ℕ} {lows : List ℕ} {v r : ℕ} (p : (1 ≤ v) �
         }
 
     pub trail-end : e ≡ 0 → AllMet w b m v r
-    trail-end z = over (none-at-zero w k e z)
+    trail-end z = over (follow-end (nextWord (header w) w) k e z)
 
     pub trail-out : k ≡ 0 → AllMet w b m v r
-    trail-out z = over (none-without-turns w k e z)
+    trail-out z = over (follow-out (nextWord (header w) w) k e z)
 
     -- ONE TURN: the edge e, its target t, and the number x of the copy that serves r cycles there
     module _ (l : 0 < k) (n : e ≡ 0 → ⊥) where

@@ -16,7 +16,7 @@ use Rattle.formats.specs.Limits.{leastBlocks, mostBlocks, leastEdges, mostEdges
 use Rattle.formats.specs.Words.{word}
 use Rattle.formats.specs.File.{wordOf, wordsOf}
 use Rattle.formats.specs.GraphSheet.{header, sheetLength, short, badCounts, badLength, sheetOrder, sheetRefusal}
-use Rattle.graph_check.proofs.Orders.{pick, tested}
+use Rattle.base.proofs.Orders.{pick, tested}
 use Rattle.file_words.specs.Longer.{longerSheet, longerFile}
 use Rattle.file_words.proofs.Filled.{first, first-length}
 

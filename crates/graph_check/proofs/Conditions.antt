@@ -13,8 +13,8 @@ use Rattle.graph_words.specs.Formed.{Formed}
 use Rattle.graph_words.proofs.Formed.{formed}
 use Rattle.graph_check.specs.Parts.{formOrder, recordOrder}
 use Rattle.graph_check.specs.Marks.{marked, missed}
-use Rattle.graph_check.proofs.Orders.{pick, tested, append-stops, append-passes}
-use Rattle.graph_check.proofs.Search.{not-all}
+use Rattle.base.proofs.Orders.{pick, tested, append-stops, append-passes}
+use Rattle.base.proofs.Search.{not-all}
 
 module _ (w : List ℕ) where
   -- the whole order is its two parts

@@ -13,8 +13,8 @@ use Rattle.formats.specs.GraphSheet.{header, firstWord, nextWord, chain, succes
 use Rattle.formats.specs.GraphSheet.{BlockOf, countOrder, countSuccessors}
 use Rattle.formats.proofs.Accepted.{accepted, edge-inside}
 use Rattle.graph_check.specs.Chains.{edgesFrom, Inside}
-use Rattle.graph_check.proofs.Orders.{pick, tested, append-stops, append-passes, over-is}
-use Rattle.graph_check.proofs.Chains.{follow-more}
+use Rattle.base.proofs.Orders.{pick, tested, append-stops, append-passes, over-is}
+use Rattle.formats.proofs.Chains.{follow-more}
 
 module _ (w : List ℕ) where
   -- A CHAIN INSIDE, edge by edge

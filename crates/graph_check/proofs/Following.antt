@@ -13,9 +13,9 @@ use Rattle.formats.specs.Limits.{mostEdges}
 use Rattle.formats.specs.GraphSheet.{header, firstWord, nextWord, chain, met, badChains}
 use Rattle.graph_check.specs.Chains.{edgesFrom}
 use Rattle.graph_check.specs.Marks.{marked, missed, unsoundFrom, Marking}
-use Rattle.graph_check.proofs.Chains.{follow-end, follow-out, follow-more}
+use Rattle.formats.proofs.Chains.{follow-end, follow-out, follow-more}
 use Rattle.graph_check.proofs.Marks.{from-clear}
-use Rattle.graph_check.proofs.Search.{upto, upto-one, upto-more, upto-end}
+use Rattle.base.proofs.Search.{upto, upto-one, upto-more, upto-end}
 
 module _ (w : List ℕ) where
   abbrev E : ℕ

@@ -216,7 +216,7 @@ pub fn check_graph(s: &[u16]) -> u16
 }
 
 // The number of edges of a chain from e on: "zero if empty, else one more than the rest"; at most k.
-pub fn chain_length(s: &[u16], e: usize, k: usize) -> usize
+fn chain_length(s: &[u16], e: usize, k: usize) -> usize
     requires { ⌜ Formed (now s) ⌝ }
     requires { ⌜ k ≤ suc mostEdges ⌝ }
     requires { ⌜ Inside (now s) k e ⌝ }
@@ -232,8 +232,8 @@ pub fn chain_length(s: &[u16], e: usize, k: usize) -> usize
     1 + chain_length(s, next, k - 1)
 }
 
-// The number of successors of block v in an accepted sheet.
-fn successor_count(s: &[u16], v: usize) -> usize
+// The number of successors of block v in an accepted sheet. Below the public calls.
+pub fn successor_count(s: &[u16], v: usize) -> usize
     requires { ⌜ sheetRefusal (now s) ≡ 0 ⌝ }
     requires { ⌜ (1 ≤ v) × (v ≤ header (now s) .blocks) ⌝ }
     ensures { λ r. ⌜ (r ≡ successorCount (header (now (s .entry))) (now (s .entry)) v) × (r ≤ suc mostEdges) ⌝ }

@@ -14,10 +14,8 @@ ghost use Rattle.number.specs.Scan.{mostCells, IsCell, NextMarked};
 ghost use Rattle.number.specs.Rows.{sheetRowsAt};
 ghost use Rattle.number.specs.Entries.{entryBefore, nextEntry};
 use cells::is_set;
-use graph_check::chain_length;
+use graph_check::successor_count;
 use graph_words::blocks;
-use graph_words::edges;
-use graph_words::first_of;
 use tables::entry;
 use tables::is_marked;
 use tables::put_entry;
@@ -146,9 +144,7 @@ pub fn degree(s: &[u16], v: usize) -> usize
     requires { ⌜ (1 ≤ v) × (v ≤ header (now s) .blocks) ⌝ }
     ensures { λ r. ⌜ (r ≡ length (graph (now (s .entry)) .next v)) × (r ≤ suc mostEdges) ⌝ }
 {
-    let m = edges(s);
-    let first = first_of(s, v);
-    chain_length(s, first, m + 1)
+    successor_count(s, v)
 }
 
 // The number of edges of all copies.

@@ -10,7 +10,7 @@ use Rattle.base.proofs.Orders.{unrefused, none-left, over-e, inside-of}
 use Rattle.formats.specs.BoundedSheet.{heading, edgePart}
 use Rattle.formats.specs.Rule11.{boundedOrder, boundedRefusal, CopyIn, partOrder, handOut}
 use Rattle.formats.proofs.RuleKept.{bounded-numbered}
-use Rattle.graph_check.proofs.Orders.{pick, tested, append-stops, append-passes, over-is}
+use Rattle.base.proofs.Orders.{pick, tested, append-stops, append-passes, over-is}
 
 module _ (s : List ℕ) (i : ℕ) where
   abbrev x : CopyIn

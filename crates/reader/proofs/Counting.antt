@@ -13,7 +13,7 @@ use Rattle.formats.specs.Rule11.{boundedRefusal}
 use Rattle.formats.proofs.Reading.{edgeRecords-length, met}
 use Rattle.formats.proofs.RuleRead.{clauses, rows, laid-out}
 use Rattle.formats.proofs.Parts.{part-of}
-use Rattle.graph_check.proofs.Chains.{follow-end, follow-out, follow-more}
+use Rattle.formats.proofs.Chains.{follow-end, follow-out, follow-more}
 use Rattle.bounded_check.specs.Chains.{chainFrom}
 
 module _ (s : List ℕ) where

@@ -8,7 +8,7 @@ use lib.ListN.{length}
 use Rattle.base.specs.Lists.{each, from}
 use Rattle.formats.specs.BoundedSheet.{heading}
 use Rattle.formats.specs.Listing.{copyLine}
-use Rattle.graph_check.proofs.Search.{upto, upto-one, upto-more, upto-end}
+use Rattle.base.proofs.Search.{upto, upto-one, upto-more, upto-end}
 use Rattle.text.specs.Wrote.{Wrote}
 use Rattle.text.specs.Texts.{copyLines}
 use Rattle.text.proofs.Due.{Due, due-start, due-as, due-room, due-step, due-end}

@@ -8,7 +8,7 @@ use Rattle.base.specs.Lists.{each}
 use Rattle.formats.specs.Words.{follow}
 use Rattle.formats.specs.BoundedSheet.{Heading, heading, firstAt, targetAt, nextAt, chainAt, targetsAt}
 use Rattle.formats.specs.Rule11.{boundedRefusal}
-use Rattle.graph_check.proofs.Chains.{follow-end, follow-out, follow-more}
+use Rattle.formats.proofs.Chains.{follow-end, follow-out, follow-more}
 use Rattle.text.specs.Wrote.{Wrote}
 use Rattle.text.specs.Texts.{spaced, targetsText}
 use Rattle.text.proofs.Due.{Due, due-start, due-as, due-room, due-step, due-end}

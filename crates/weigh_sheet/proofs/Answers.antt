@@ -24,7 +24,7 @@ use Rattle.calls.specs.Area.{areaSize, filled, Table}
 use Rattle.calls.specs.Weigh.{Weighing, sheetArea, smallArea, nothingFits, weighOrder, beforeWeighing, areaAfter, weighed}
 use Rattle.calls.proofs.Area.{filled-table}
 use Rattle.tables.specs.Tables.{optionOf}
-use Rattle.graph_check.proofs.Orders.{pick, tested, append-stops, append-passes, over-is}
+use Rattle.base.proofs.Orders.{pick, tested, append-stops, append-passes, over-is}
 
 -- an order answers one of its numbers
 refused-most : {I : Type 0} (n : ℕ) (rs : Order I) (i : I) → all (λ r. leb (r .0) n) rs ≡ true → refused rs i ≤ n

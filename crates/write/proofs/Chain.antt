@@ -19,7 +19,8 @@ use Rattle.cells.specs.Cells.{Within}
 use Rattle.cells.proofs.Cells.{cell-inside}
 use Rattle.tables.specs.Tables.{sheetCopiesAt, Numbers}
 use Rattle.chains.specs.Rest.{edgesFrom, targetsFrom, Rest}
-use Rattle.chains.proofs.Rest.{none-at-zero, none-without-turns, rest-start, targets-start, edge-fits, is-successor, rest-on, targets-on}
+use Rattle.formats.proofs.Chains.{follow-end, follow-out}
+use Rattle.chains.proofs.Rest.{rest-start, targets-start, edge-fits, is-successor, rest-on, targets-on}
 use Rattle.number.specs.Rows.{sheetRowAt}
 use Rattle.write.specs.Put.{putWords}
 use Rattle.write.proofs.Put.{put-none, put-length, put-more}
@@ -96,11 +97,11 @@ module _ {w : List ℕ} {b v left : ℕ} {numbers o₀ o : List ℕ} {base e n y
     turns = go (ℕ-discrete (W .k) 0)
       where
         go : Dec (W .k ≡ 0) → 0 < W .k
-        go (yes z) = absurd (omega (arith, none-left (none-without-turns w (W .k) y z)))
+        go (yes z) = absurd (omega (arith, none-left (follow-out (nextWord (header w) w) (W .k) y z)))
         go (no z) = omega arith
 
     some-edge : y ≡ 0 → ⊥
-    some-edge z = omega (arith, none-left (none-at-zero w (W .k) y z))
+    some-edge z = omega (arith, none-left (follow-end (nextWord (header w) w) (W .k) y z))
 
     pub edge-inside : (1 ≤ y) × (y ≤ header w .edges)
     edge-inside = edge-fits w (L .ok) v (L .block .0) (L .block .1) (W .k) y (W .rest) turns some-edge

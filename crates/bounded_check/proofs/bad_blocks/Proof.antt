@@ -7,7 +7,7 @@ use Rattle.base.specs.Checks.{outside}
 use Rattle.formats.specs.Limits.{mostBlocks}
 use Rattle.formats.specs.BoundedSheet.{heading, blockAt}
 use Rattle.formats.specs.Rule11.{badBlocks}
-use Rattle.graph_check.proofs.Search.{Search, begin, found, onward, none}
+use Rattle.base.proofs.Search.{Search, begin, found, onward, none}
 use Rattle.bounded_check.proofs.bad_blocks.Statement.{statement}
 use Rattle.bounded_check.proofs.bad_blocks.Tie as tie
 

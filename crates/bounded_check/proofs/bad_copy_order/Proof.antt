@@ -6,7 +6,7 @@ use Prim.Native.Nat.{ℕ, _+_, _-_}
 use borrow.Author.Needs.{needs}
 use Rattle.formats.specs.BoundedSheet.{heading}
 use Rattle.formats.specs.Rule11.{badCopyOrder}
-use Rattle.graph_check.proofs.Search.{Search, begin, found, onward, none}
+use Rattle.base.proofs.Search.{Search, begin, found, onward, none}
 use Rattle.bounded_check.specs.Copies.{inOrder}
 use Rattle.bounded_check.proofs.bad_copy_order.Statement.{statement}
 use Rattle.bounded_check.proofs.bad_copy_order.Tie as tie

@@ -4,7 +4,7 @@ use Prim.Native.Nat.{_+_, _-_}
 use borrow.Author.Needs.{needs}
 use Rattle.formats.specs.BoundedSheet.{heading}
 use Rattle.formats.specs.Rule11.{badExit, copiesOf}
-use Rattle.graph_check.proofs.Search.{Search, begin, found, onward, none}
+use Rattle.base.proofs.Search.{Search, begin, found, onward, none}
 use Rattle.bounded_check.specs.Copies.{isBadExit}
 use Rattle.bounded_check.proofs.Copies.{any-keep}
 use Rattle.bounded_check.proofs.bad_exit.Statement.{statement}

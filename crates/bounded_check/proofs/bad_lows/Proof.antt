@@ -7,7 +7,7 @@ use borrow.Author.Tests.{lt-ltb, le-ltb}
 use borrow.Author.Needs.{needs}
 use Rattle.formats.specs.BoundedSheet.{heading, lowAt}
 use Rattle.formats.specs.Rule11.{badLows}
-use Rattle.graph_check.proofs.Search.{Search, begin, found, onward, none}
+use Rattle.base.proofs.Search.{Search, begin, found, onward, none}
 use Rattle.bounded_check.proofs.bad_lows.Statement.{statement}
 use Rattle.bounded_check.proofs.bad_lows.Tie as tie
 

@@ -8,7 +8,7 @@ use borrow.Author.Needs.{needs}
 use Rattle.base.specs.Checks.{outside}
 use Rattle.formats.specs.BoundedSheet.{heading, targetAt}
 use Rattle.formats.specs.Rule11.{badTargetWords}
-use Rattle.graph_check.proofs.Search.{Search, begin, found, onward, none}
+use Rattle.base.proofs.Search.{Search, begin, found, onward, none}
 use Rattle.bounded_check.proofs.bad_target_words.Statement.{statement}
 use Rattle.bounded_check.proofs.bad_target_words.Tie as tie
 

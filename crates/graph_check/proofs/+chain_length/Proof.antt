@@ -9,7 +9,7 @@ use borrow.Fn.PlainCycle.{Measures, is, falls, and}
 use Rattle.formats.specs.Words.{chainLength}
 use Rattle.formats.specs.GraphSheet.{header, nextWord}
 use Rattle.graph_words.proofs.next_of.Reads as next-of
-use Rattle.graph_check.proofs.Chains.{follow-end, follow-out, length-end, length-more}
+use Rattle.formats.proofs.Chains.{follow-end, follow-out, length-end, length-more}
 use Rattle.graph_check.proofs.Counting.{edge-fits, inside-next}
 use Rattle.graph_check.proofs.chain_length.Reads as chain-length
 use Rattle.graph_check.proofs.chain_length.Kinds as kinds

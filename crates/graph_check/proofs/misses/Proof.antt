@@ -6,7 +6,7 @@ use Prim.Native.Nat.{_+_, _-_}
 use borrow.Author.Needs.{needs}
 use borrow.Author.Tests.{eq-eqb, ne-eqb}
 use Rattle.graph_check.specs.Marks.{marked, missed}
-use Rattle.graph_check.proofs.Search.{Search, begin, found, onward, none}
+use Rattle.base.proofs.Search.{Search, begin, found, onward, none}
 use Rattle.graph_check.proofs.Conditions.{missed-are}
 use Rattle.graph_check.proofs.misses.Statement.{statement}
 use Rattle.graph_check.proofs.misses.Tie as tie
