@@ -1,0 +1,136 @@
+-- The reply of a machine to a choice, case by case; of the monitor, and of the bounded walk.
+-- Rests on theory Machines, Walks and Completions, formats Accepted, calls SheetGraph, look Laws, tables Tables.
+use mathlib.Core.Path.{_≡_, refl, sym, ap, _∙_}
+use mathlib.Core.Bool.{false}
+use mathlib.Core.List.{List}
+use mathlib.Core.Option.{Option, some, none}
+use Prim.Native.Nat.{ℕ, zero, suc, _+_, _-_, _≤_}
+use native.Mathlib.Omega.{arith}
+use native.Mathlib.Numerals.{add-one}
+use borrow.Author.Tests.{ltb-false}
+use Rattle.base.specs.Lists.{chosen}
+use Rattle.base.specs.Checks.{outside}
+use Rattle.base.proofs.Lists.{chosen-mem}
+use Rattle.theory.specs.Completions.{lowOf}
+use Rattle.theory.specs.Machines.{End, going, exit, diverted, Machine, taken, replyAt, reply}
+use Rattle.theory.specs.Walks.{Walk, endAt, mostMoves, monitorTake, monitor, Bounded, boundedTake, boundedWalk}
+use Rattle.theory.proofs.Completions.{covers}
+use Rattle.formats.specs.GraphSheet.{header, sheetRefusal}
+use Rattle.formats.specs.Limits.{mostBudget}
+use Rattle.formats.specs.BoundedSheet.{heading}
+use Rattle.formats.specs.Rule11.{largeBudget, boundedRefusal}
+use Rattle.formats.proofs.RuleRead.{clauses}
+use Rattle.formats.proofs.Accepted.{accepted, target-inside}
+use Rattle.calls.specs.SheetGraph.{graph}
+use Rattle.calls.specs.Weigh.{beforeWeighing}
+use Rattle.calls.proofs.SheetLaws.{well-formed}
+use Rattle.look.proofs.Laws.{is-low}
+use Rattle.tables.specs.Tables.{optionOf}
+
+-- an option as a number
+pub option-none : (x : ℕ) {o : Option ℕ} → optionOf x ≡ o → x ≡ 0 → o ≡ none
+unfolding optionOf
+option-none x e z = sym e ∙ ap optionOf z
+
+pub option-some : (x : ℕ) {o : Option ℕ} → optionOf x ≡ o → (x ≡ 0 → ⊥) → o ≡ some (x - 1)
+unfolding optionOf
+option-some zero e n = absurd (n refl)
+option-some (suc x) e n = let p : suc x - 1 ≡ x = omega arith in rw p (sym e)
+
+-- A MACHINE, where the k-th target is x - 1, if any
+module _ {S : Type 0} (m : Machine S ℕ) (s : S) (k : ℕ) where
+  pub ended : (m .stands s ≡ going → ⊥) → record { answer = 32; after = s } ≡ reply m s k
+  unfolding reply replyAt
+  ended n = go (m .stands s) n
+    where
+      go : (e : End) → (e ≡ going → ⊥) → record { answer = 32; after = s } ≡ replyAt m e s k
+      go going n = absurd (n refl)
+      go exit n = refl
+      go diverted n = refl
+
+  module _ (g : m .stands s ≡ going) (x : ℕ) (q : optionOf x ≡ chosen (m .targets s) k) where
+    replies : (o : Option ℕ) → chosen (m .targets s) k ≡ o → taken m s o ≡ reply m s k
+    unfolding reply replyAt
+    replies o e = rw (g, e)
+
+    pub unchosen : x ≡ 0 → record { answer = 31; after = s } ≡ reply m s k
+    unfolding taken
+    unchosen z = replies none (option-none x q z)
+
+    pub takes : (x ≡ 0 → ⊥) → (a : S) → a ≡ m .take s (x - 1) → record { answer = 0; after = a } ≡ reply m s k
+    unfolding taken
+    takes n a e = rw e (replies (some (x - 1)) (option-some x q n))
+
+-- THE MONITOR of a sheet's graph, where the k-th target is x - 1, if any, and y is the look-up of it
+module _ (w : List ℕ) (ok : sheetRefusal w ≡ 0) (b : ℕ) (s : Walk) (k : ℕ) {x : ℕ} (q : optionOf x ≡ chosen (graph w .next (s .place)) k)
+    (n : x ≡ 0 → ⊥) where
+  pub target-fits : (1 ≤ x - 1) × (x - 1 ≤ header w .blocks)
+  unfolding graph
+  target-fits = omega (arith, target-inside w (accepted w ok) (s .place) (x - 1) (chosen-mem _ k (x - 1) (option-some x q n)))
+
+  module _ (y : ℕ) (l : optionOf y ≡ lowOf (graph w) (x - 1) (b - s .count)) where
+    -- the target's cost is covered by what is left
+    pub count-fits : (y ≡ 0 → ⊥) → s .count ≤ b → {c : ℕ} → c ≡ graph w .cost (x - 1) → s .count + c ≤ b
+    count-fits m h e =
+        let p = is-low w ok (x - 1) (b - s .count) y l (y - 1) (omega arith) in
+        omega (arith, p .below, covers (graph w) (well-formed w (accepted w ok)) (p .cost))
+
+    module _ (g : s .end ≡ going) where
+      takes-low : (o : Option ℕ) → lowOf (graph w) (x - 1) (b - s .count) ≡ o
+          → record { answer = 0; after = monitorTake (graph w) b s (x - 1) o } ≡ reply (monitor (graph w) b) s k
+      unfolding monitor
+      takes-low o e = takes (monitor (graph w) b) s k g x q n _ (ap (monitorTake (graph w) b s (x - 1)) (sym e))
+
+      pub diverts : y ≡ 0 → {a : Walk} → a ≡ record { place = s .place; count = s .count; end = diverted }
+          → record { answer = 0; after = a } ≡ reply (monitor (graph w) b) s k
+      unfolding monitorTake
+      diverts z r = rw r (takes-low none (option-none y l z))
+
+      pub enters : (y ≡ 0 → ⊥) → {c : ℕ} → c ≡ graph w .cost (x - 1) → {a : Walk}
+          → a ≡ record { place = x - 1; count = s .count + c; end = endAt 2 (x - 1) }
+          → record { answer = 0; after = a } ≡ reply (monitor (graph w) b) s k
+      unfolding monitorTake
+      enters m p r = rw (r, p) (takes-low (some (y - 1)) (option-some y l m))
+
+-- THE BOUNDED WALK, where the k-th target is x - 1, if any
+module _ (m : Bounded) (s : Walk) (k : ℕ) (g : s .end ≡ going) {x : ℕ} (q : optionOf x ≡ chosen (m .next (s .place)) k) where
+  pub bounded-diverts : x ≡ 1 → {a : Walk} → a ≡ record { place = s .place; count = s .count + 1; end = diverted }
+      → record { answer = 0; after = a } ≡ reply (boundedWalk m) s k
+  unfolding boundedWalk boundedTake
+  bounded-diverts z r =
+      let p : x - 1 ≡ 0 = omega arith in
+      takes (boundedWalk m) s k g x q (λ e. omega arith) _ (rw (r, p, add-one))
+
+  pub bounded-enters : (x ≡ 0 → ⊥) → (x ≡ 1 → ⊥) → {a : Walk}
+      → a ≡ record { place = x - 1; count = s .count + 1; end = endAt (m .last) (x - 1) }
+      → record { answer = 0; after = a } ≡ reply (boundedWalk m) s k
+  unfolding boundedWalk boundedTake
+  bounded-enters n o r =
+      let p : x - 1 ≡ suc (x - 2) = omega arith in
+      takes (boundedWalk m) s k g x q n _ (rw (r, p, add-one))
+
+-- the moves of a walk in shape are few
+most-fits : (b : ℕ) (e : End) → mostMoves b e ≤ suc b
+unfolding mostMoves
+most-fits b going = omega arith
+most-fits b exit = omega arith
+most-fits b diverted = omega arith
+
+pub moves-fit : (t : List ℕ) → boundedRefusal t ≡ 0 → (e : End) (n : ℕ) → n ≤ mostMoves (heading t .budget) e → n ≤ suc mostBudget
+unfolding largeBudget
+moves-fit t ok e n l =
+    omega (arith, most-fits (heading t .budget) e, ltb-false mostBudget (heading t .budget) (clauses t ok .budget))
+
+-- a machine answers 0, 31 or 32, numbers that are not checked before weighing
+pub reply-late : {S : Type 0} (m : Machine S ℕ) (s : S) (k : ℕ) → beforeWeighing (reply m s k .answer) ≡ false
+unfolding reply replyAt taken beforeWeighing outside
+reply-late m s k = stands (m .stands s)
+  where
+    chooses : (o : Option ℕ) → beforeWeighing (taken m s o .answer) ≡ false
+    chooses none = refl
+    chooses (some x) = refl
+
+    stands : (e : End) → beforeWeighing (replyAt m e s k .answer) ≡ false
+    stands going = chooses (chosen (m .targets s) k)
+    stands exit = refl
+    stands diverted = refl

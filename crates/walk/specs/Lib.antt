@@ -1,0 +1,3 @@
+-- What the code's walk stands for.
+-- Rests on theory.
+pub mod Walks

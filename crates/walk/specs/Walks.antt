@@ -1,0 +1,31 @@
+-- What the code's walk stands for: document 01's place, count and end, for each of the enum's cases.
+-- Rests on theory Machines and Walks.
+use mathlib.Core.Bool.{Bool, true, false, not, Bool·beq}
+use Rattle.theory.specs.Machines.{End as Ends, going, exit, diverted, Reply}
+use Rattle.theory.specs.Walks.{Walk as Walked}
+use Rattle.walk.specs.declared.End.{End}
+use Rattle.walk.specs.declared.End.the-variants.{Going, Exit, Diverted}
+use Rattle.walk.specs.declared.Walk.{Walk}
+use Rattle.walk.specs.declared.Moved.{Moved}
+
+unfoldable pub endOf : End → Ends
+endOf Going = going
+endOf Exit = exit
+endOf Diverted = diverted
+
+abbrev pub walkOf : Walk → Walked
+walkOf w = record { place = w .place; count = w .count; end = endOf (w .end) }
+
+-- an answer with the walk after it, as a machine replies
+abbrev pub replyOf : Moved → Reply Walked
+replyOf m = record { answer = m .answer; after = walkOf (m .walk) }
+
+-- a walk that has ended, at the exit or diverted
+unfoldable pub hasEnded : Ends → Bool
+hasEnded going = false
+hasEnded exit = true
+hasEnded diverted = true
+
+-- the end exit and the exit's place not together
+abbrev pub apart : Bool → Bool → Bool
+apart ended at = not (Bool·beq ended at)
