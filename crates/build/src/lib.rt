@@ -13,14 +13,17 @@ ghost use Rattle.calls.specs.Area.{areaSize, Table};
 ghost use Rattle.tables.specs.Tables.{sheetCopiesAt, Exactly, Numbers};
 ghost use Rattle.descend.specs.Marks.{Clear};
 ghost use Rattle.build.specs.Within.{answerAt, outputAt, built};
-
-use graph_words::{MOST_BLOCKS, MOST_BUDGET, budget};
-use bounded_words::{MOST_COPIES, MOST_BOUNDED_EDGES};
-use weigh_sheet::{weigh_sheet};
-use lows::{fill_lows};
-use descend::{reach};
-use number::{number, count_edges};
-use write::{write_sheet};
+use bounded_words::MOST_BOUNDED_EDGES;
+use bounded_words::MOST_COPIES;
+use descend::reach;
+use graph_words::MOST_BLOCKS;
+use graph_words::MOST_BUDGET;
+use graph_words::budget;
+use lows::fill_lows;
+use number::count_edges;
+use number::number;
+use weigh_sheet::weigh_sheet;
+use write::write_sheet;
 
 // The most cells of a work area.
 const MOST_CELLS: usize = MOST_BLOCKS * (MOST_BUDGET + 1);
@@ -41,7 +44,14 @@ fn find_copies(s: &[u16], area: &[u8], table: &mut [u16], marks: &mut [u8], b: u
 }
 
 // With the copies numbered and few enough: 10 for the edges, 22, or 0 and the words in the output row.
-fn write_numbered(s: &[u16], marks: &[u8], numbers: &[u16], out: &mut [u16], b: usize, copies: usize) -> u16
+fn write_numbered(
+    s: &[u16],
+    marks: &[u8],
+    numbers: &[u16],
+    out: &mut [u16],
+    b: usize,
+    copies: usize,
+) -> u16
     requires { ⌜ sheetRefusal (now s) ≡ 0 ⌝ }
     requires { ⌜ b ≤ mostBudget ⌝ }
     requires { ⌜ Exactly (now s) b (now marks) ⌝ }
@@ -62,7 +72,14 @@ fn write_numbered(s: &[u16], marks: &[u8], numbers: &[u16], out: &mut [u16], b: 
 }
 
 // The bounded sheet of the marked copies within the budget b: 10, 22, or 0 and the words in the output row.
-fn write_marked(s: &[u16], area: &[u8], table: &mut [u16], marks: &[u8], out: &mut [u16], b: usize) -> u16
+fn write_marked(
+    s: &[u16],
+    area: &[u8],
+    table: &mut [u16],
+    marks: &[u8],
+    out: &mut [u16],
+    b: usize,
+) -> u16
     requires { ⌜ sheetRefusal (now s) ≡ 0 ⌝ }
     requires { ⌜ (b ≤ mostBudget) × (areaSize (header (now s) .blocks) b ≤ length (now table)) ⌝ }
     requires { ⌜ Table (graph (now s)) (header (now s) .blocks) b (now area) ⌝ }
@@ -78,7 +95,14 @@ fn write_marked(s: &[u16], area: &[u8], table: &mut [u16], marks: &[u8], out: &m
 }
 
 // Both, in rows that are lent.
-fn build_in_rows(s: &[u16], area: &[u8], table: &mut [u16], marks: &mut [u8], out: &mut [u16], b: usize) -> u16
+fn build_in_rows(
+    s: &[u16],
+    area: &[u8],
+    table: &mut [u16],
+    marks: &mut [u8],
+    out: &mut [u16],
+    b: usize,
+) -> u16
     requires { ⌜ sheetRefusal (now s) ≡ 0 ⌝ }
     requires { ⌜ (b ≤ mostBudget) × (isNone (lowOf (graph (now s)) 1 b) ≡ false) ⌝ }
     requires { ⌜ Table (graph (now s)) (header (now s) .blocks) b (now area) ⌝ }

@@ -70,9 +70,12 @@ pub record BoundedInput : Type 0 where
 unfoldable pub boundedMoveOrder : Order BoundedInput
 boundedMoveOrder =
     over (λ i. i .sheet) boundedOrder
-    ++ ((33, λ i.
-    let m = readBounded (i .sheet) in
-    outOfShape (m .size) (m .last) (mostMoves (heading (i .sheet) .budget) (i .walk .end)) (i .walk)) ∷ [])
+    ++ ((
+      33,
+      λ i.
+          let m = readBounded (i .sheet) in
+          outOfShape (m .size) (m .last) (mostMoves (heading (i .sheet) .budget) (i .walk .end)) (i .walk),
+    ) ∷ [])
 
 -- THE CALL: the answer and the walk
 unfoldable pub boundedMove : List ℕ → Walk → ℕ → Reply Walk

@@ -189,7 +189,8 @@ fits-rule b rs F =
     let h = heading (sheetWords b rs) in
     let R = records-fit h s rs (laid b rs) (F .rows) in
     let limits : badLimits h s ≡ false
-    = rw (not-outside leastCopies mostCopies (length rs) (F .few .0) (F .few .1)) (not-outside leastBoundedEdges mostBoundedEdges (edgeCount rs) (F .edges .0) (F .edges .1)) in
+    = rw (not-outside leastCopies mostCopies (length rs) (F .few .0) (F .few .1))
+    (not-outside leastBoundedEdges mostBoundedEdges (edgeCount rs) (F .edges .0) (F .edges .1)) in
     passed 11 tooShort _ s (le-ltb (length s) 3 (omega arith))
     (passed 11 _ _ s limits
     (passed 11 _ _ s (R .size)

@@ -8,12 +8,47 @@ use walk::End;
 use walk::Moved;
 use walk::Walk;
 use weigh_sheet::weigh_sheet;
-
 ghost use Prim.Native.Nat.{_<_, _≤_};
 
 // The example of document 01 at the budget 8.
 const SHEET: [u16; 37] = [
-    8, 9, 8, 0, 1, 0, 0, 2, 2, 1, 4, 4, 5, 1, 6, 1, 8, 5, 9, 3, 0, 4, 3, 5, 0, 6, 0, 6, 0, 7, 7, 8, 0, 2, 0, 2, 0,
+    8,
+    9,
+    8,
+    0,
+    1,
+    0,
+    0,
+    2,
+    2,
+    1,
+    4,
+    4,
+    5,
+    1,
+    6,
+    1,
+    8,
+    5,
+    9,
+    3,
+    0,
+    4,
+    3,
+    5,
+    0,
+    6,
+    0,
+    6,
+    0,
+    7,
+    7,
+    8,
+    0,
+    2,
+    0,
+    2,
+    0,
 ];
 
 fn wide(x: u16) -> usize
@@ -101,26 +136,60 @@ fn goes(end: End) -> bool {
 fn watch(s: &[u16], area: &[u8], w: Walk, choice: u16) -> Moved {
     let end = w.end;
     if !goes(end) {
-        return Moved { answer: 32, walk: w };
+        return Moved {
+            answer: 32,
+            walk: w,
+        };
     }
     let e = edge(s, w.place as usize, choice as usize);
     if e == 0 {
-        return Moved { answer: 31, walk: w };
+        return Moved {
+            answer: 31,
+            walk: w,
+        };
     }
     let t = word(s, 2 * word(s, 0) + 2 * e + 1);
     let b = word(s, 2);
     let count = w.count as usize;
     if b < count {
-        return Moved { answer: 0, walk: Walk { place: w.place, count: w.count, end: End::Diverted } };
+        return Moved {
+            answer: 0,
+            walk: Walk {
+                place: w.place,
+                count: w.count,
+                end: End::Diverted,
+            },
+        };
     }
     if !fits(s, area, t, b - count) {
-        return Moved { answer: 0, walk: Walk { place: w.place, count: w.count, end: End::Diverted } };
+        return Moved {
+            answer: 0,
+            walk: Walk {
+                place: w.place,
+                count: w.count,
+                end: End::Diverted,
+            },
+        };
     }
     let spent = ((count + word(s, 2 * t + 1)) % 65536) as u16;
     if t == 2 {
-        return Moved { answer: 0, walk: Walk { place: 2, count: spent, end: End::Exit } };
+        return Moved {
+            answer: 0,
+            walk: Walk {
+                place: 2,
+                count: spent,
+                end: End::Exit,
+            },
+        };
     }
-    Moved { answer: 0, walk: Walk { place: (t % 65536) as u16, count: spent, end: End::Going } }
+    Moved {
+        answer: 0,
+        walk: Walk {
+            place: (t % 65536) as u16,
+            count: spent,
+            end: End::Going,
+        },
+    }
 }
 
 fn number(n: usize) {
@@ -149,7 +218,8 @@ fn print_end(block: usize, w: Walk) {
         End::Going => io::write_all(STDOUT_FILENO, b" 0\n"),
         End::Exit => io::write_all(STDOUT_FILENO, b" 1\n"),
         End::Diverted => io::write_all(STDOUT_FILENO, b" 2\n"),
-    };
+    }
+    ;
 }
 
 // The three machines after some choices, with their answers.
@@ -174,7 +244,15 @@ fn begin() -> Machines {
 }
 
 // One choice, the j-th of n, given to all three; nothing beyond the n-th.
-fn give(table: &[u8], area: &mut [u8], sheet: &[u16], m: Machines, n: usize, j: usize, choice: u16) -> Machines
+fn give(
+    table: &[u8],
+    area: &mut [u8],
+    sheet: &[u16],
+    m: Machines,
+    n: usize,
+    j: usize,
+    choice: u16,
+) -> Machines
     requires { ⌜ j < 8 ⌝ }
 {
     if n <= j {
@@ -193,7 +271,14 @@ fn give(table: &[u8], area: &mut [u8], sheet: &[u16], m: Machines, n: usize, j: 
     let x = a.walk;
     let y = b.walk;
     let z = c.walk;
-    Machines { watch: x, monitored: y, bounded: z, watched: watched, monitors: monitors, bounds: bounds }
+    Machines {
+        watch: x,
+        monitored: y,
+        bounded: z,
+        watched: watched,
+        monitors: monitors,
+        bounds: bounds,
+    }
 }
 
 fn run(table: &[u8], area: &mut [u8], sheet: &[u16], choices: [u16; 8], n: usize) -> Machines {

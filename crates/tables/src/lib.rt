@@ -6,8 +6,7 @@ ghost use lib.ListN.{length, getD, set};
 ghost use Rattle.calls.specs.Area.{cellOf};
 ghost use Rattle.cells.specs.Cells.{Within};
 ghost use Rattle.tables.specs.Tables.{marked};
-
-use cells::{place};
+use cells::place;
 
 // The entry of v and r.
 pub fn entry(row: &[u16], b: usize, v: usize, r: usize) -> usize

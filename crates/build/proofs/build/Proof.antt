@@ -26,8 +26,7 @@ returns c =
     let area = z .args .area .now in
     let out = z .args .out .now in
     let a = c .before .before .before .weigh-sheet .result in
-    let n = c .if1 .taken in
-    (
+    let n = c .if1 .taken in (
       sym (refused-answer w area out a (sym (e .0)) n),
       (e .1 ∙ sym (refused-area w area out a (sym (e .0)) n), sym (refused-output w area out a (sym (e .0)) n)),
     )
@@ -46,14 +45,15 @@ build-weighed-requires c κs =
     let w = z .args .s .now in
     let area = z .args .area .now in
     let p = sym (e .0) ∙ c .before .before .before .if1 .left in
-    let b = sym (c .before .before .budget .ensures .0) in
-    (
+    let b = sym (c .before .before .budget .ensures .0) in (
       is-accepted w area p,
       (
-        (subst (λ (b : ℕ). b ≤ mostBudget) b (small-budget w area p),
-        subst (λ (b : ℕ). isNone (lowOf (graph w) 1 b) ≡ false) b (something-fits w area p)),
+        (
+          subst (λ (b : ℕ). b ≤ mostBudget) b (small-budget w area p),
+          subst (λ (b : ℕ). isNone (lowOf (graph w) 1 b) ≡ false) b (something-fits w area p),
+        ),
         subst (λ (b : ℕ). Table (graph w) (header w .blocks) b filled) b
-        (subst (Table (graph w) (header w .blocks) (header w .budget)) (sym (e .1)) (has-table w area p)),
+            (subst (Table (graph w) (header w .blocks) (header w .budget)) (sym (e .1)) (has-table w area p)),
       ),
     )
 
@@ -68,8 +68,7 @@ returns-2 c =
     let p = sym (e .0) ∙ f .before .before .before .before .if1 .left in
     let b = f .before .before .before .budget .ensures .0 in
     let r = f .build-weighed .ensures in
-    let a = r .0 ∙ ap (λ (b : ℕ). answerAt w b (length out)) b in
-    (
+    let a = r .0 ∙ ap (λ (b : ℕ). answerAt w b (length out)) b in (
       a ∙ sym (passed-answer w area out p),
       (
         e .1 ∙ sym (passed-area w area out p),

@@ -1,0 +1,2 @@
+-- the length of a part: part-count, part-most
+pub mod Parts

@@ -1,0 +1,74 @@
+-- The listing of a graph sheet by its answer, and of a whole file by its first words.
+-- Rests on base Orders, calls Program, file_words Filled and LongFile, specs Whole.
+use mathlib.Core.Path.{_≡_, refl, sym, ap, _∙_}
+use mathlib.Core.Bool.{Bool, true, false}
+use mathlib.Core.List.{List, _++_}
+use Prim.Native.Nat.{ℕ, zero, suc, _/_}
+use native.Mathlib.Omega.{arith}
+use borrow.Author.Tests.{ltb-true, ltb-false}
+use lib.Dec.{ltb}
+use lib.ListN.{length, take}
+use lib.Seq.{take-all, take-at}
+use Rattle.base.specs.Checks.{refused}
+use Rattle.base.proofs.Orders.{append-stops}
+use Rattle.formats.specs.GraphSheet.{sheetOrder, sheetRefusal}
+use Rattle.formats.specs.File.{wordsOf}
+use Rattle.formats.specs.Listing.{listingOf, refusalOf}
+use Rattle.calls.specs.SheetGraph.{boundedSheet}
+use Rattle.calls.specs.Program.{listingOrder, sheetListing, listing}
+use Rattle.file_words.specs.Longer.{longerFile}
+use Rattle.file_words.proofs.Filled.{first, first-length}
+use Rattle.file_words.proofs.LongFile.{long-file}
+use Rattle.list.specs.Whole.{Lists}
+
+-- A GRAPH SHEET
+module _ (w : List ℕ) where
+  pub sheet-refused : (a : ℕ) → refused listingOrder w ≡ a → (a ≡ 0 → ⊥) → sheetListing w ≡ refusalOf a
+  unfolding sheetListing
+  sheet-refused zero e n = absurd (n refl)
+  sheet-refused (suc a) e n = rw (e, sheetListing)
+
+  pub sheet-listed : refused listingOrder w ≡ 0 → sheetListing w ≡ listingOf (boundedSheet w)
+  unfolding sheetListing
+  sheet-listed e = rw (e, sheetListing)
+
+-- sheets with the same refusal
+same-listing : (v w : List ℕ) → sheetRefusal v ≡ sheetRefusal w → (sheetRefusal v ≡ 0 → ⊥) → sheetListing v ≡ sheetListing w
+unfolding sheetRefusal listingOrder
+same-listing v w e n =
+    let m : refused sheetOrder w ≡ 0 → ⊥ = λ z. n (e ∙ z) in
+    sheet-refused v (sheetRefusal v) (append-stops sheetOrder _ v n) n
+    ∙ sym (sheet-refused w (sheetRefusal v) (append-stops sheetOrder _ w m ∙ sym e) n)
+
+-- A FILE
+words-length : (bs : List ℕ) → length (wordsOf bs) ≡ length bs / 2
+unfolding wordsOf first
+words-length bs = first-length bs (length bs / 2)
+
+-- its words stand at the front of a row
+pub words-first : (bs row rest : List ℕ) (n : ℕ) → row ≡ wordsOf bs ++ rest → n ≡ length bs / 2 → take n row ≡ wordsOf bs
+words-first bs row rest n e q = ap (take n) e ∙ take-at (wordsOf bs) rest n (words-length bs ∙ sym q)
+
+-- the first bytes have the listing of all
+front-listing : (fs : List ℕ) → sheetListing (wordsOf (take longerFile fs)) ≡ sheetListing (wordsOf fs)
+front-listing fs = go (ltb (length fs) longerFile) refl
+  where
+    go : (b : Bool) → ltb (length fs) longerFile ≡ b → sheetListing (wordsOf (take longerFile fs)) ≡ sheetListing (wordsOf fs)
+    go true e =
+        let l = ltb-true (length fs) longerFile e in
+        ap (λ (bs : List ℕ). sheetListing (wordsOf bs)) (take-all longerFile fs (omega arith))
+    go false e =
+        let r = long-file fs (ltb-false (length fs) longerFile e) in
+        sym (same-listing (wordsOf fs) (wordsOf (take longerFile fs)) (r .0) (r .1))
+
+module _ (bs t : List ℕ) where
+  pub lists-odd : {odd : Bool} → odd ≡ true → t ≡ refusalOf 1 → Lists bs odd t
+  unfolding listing
+  lists-odd q e = record { whole = λ fs p o. rw (sym o ∙ q, listing) e }
+
+  pub lists-even : {odd : Bool} → odd ≡ false → t ≡ sheetListing (wordsOf bs) → Lists bs odd t
+  unfolding listing
+  lists-even q e = record {
+    whole = λ fs p o.
+        rw (sym o ∙ q, listing) (e ∙ ap (λ (x : List ℕ). sheetListing (wordsOf x)) p ∙ front-listing fs);
+  }

@@ -1,0 +1,84 @@
+// The listing of a file, on slices: below the program, which reads the file and writes the text.
+// Rests on file_words, build, text; the promise is calls Program `listing`, of the whole file.
+ghost use mathlib.Core.Path.{_≡_};
+ghost use Prim.Native.Nat.{_≤_};
+ghost use lib.ListN.{length, take};
+ghost use Rattle.formats.specs.BoundedSheet.{heading, boundedLength};
+ghost use Rattle.formats.specs.Rule11.{boundedRefusal};
+ghost use Rattle.formats.specs.Listing.{listingOf};
+ghost use Rattle.calls.specs.Program.{sheetListing};
+ghost use Rattle.file_words.specs.Longer.{longerFile};
+ghost use Rattle.text.specs.Texts.{listingRoom};
+ghost use Rattle.list.specs.Rows.{mostCells, mostWords, frontSheet};
+ghost use Rattle.list.specs.Whole.{Lists};
+use bounded_words::MOST_BOUNDED_EDGES;
+use bounded_words::MOST_COPIES;
+use bounded_words::copies;
+use bounded_words::edges;
+use build::build;
+use file_words::LONGER_FILE;
+use file_words::words_of;
+use graph_words::HEADER_WORDS;
+use graph_words::MOST_BLOCKS;
+use graph_words::MOST_BUDGET;
+use text::write_listing;
+use text::write_refusal;
+
+// The words of as many bytes as are read of a file.
+const FILE_WORDS: usize = LONGER_FILE / 2;
+
+// The most cells of a work area, and the most words of a bounded sheet: no build in such rows answers 21 or 22.
+const MOST_CELLS: usize = MOST_BLOCKS * (MOST_BUDGET + 1);
+
+const MOST_WORDS: usize = HEADER_WORDS + 3 * MOST_COPIES + 2 * MOST_BOUNDED_EDGES;
+
+// The listing of the bounded sheet with which a row begins.
+fn list_built(row: &[u16], text: &mut [u8]) -> usize
+    requires { ⌜ boundedLength (heading (now row)) ≤ length (now row) ⌝ }
+    requires { ⌜ boundedRefusal (frontSheet (now row)) ≡ 0 ⌝ }
+    requires { ⌜ listingRoom ≤ length (now text) ⌝ }
+    ensures { λ r. ⌜ (take r (now (text .exit)) ≡ listingOf (frontSheet (now (row .entry)))) × (r ≤ length (now (text .exit))) ⌝ }
+{
+    let c = copies(row);
+    let f = edges(row);
+    let size = HEADER_WORDS + 3 * c + 2 * f;
+    write_listing(&row[..size], text)
+}
+
+// The listing of a graph sheet, in rows that are lent.
+fn list_in_rows(words: &[u16], area: &mut [u8], out: &mut [u16], text: &mut [u8]) -> usize
+    requires { ⌜ (mostCells ≤ length (now area)) × (mostWords ≤ length (now out)) ⌝ }
+    requires { ⌜ listingRoom ≤ length (now text) ⌝ }
+    ensures { λ r. ⌜ (take r (now (text .exit)) ≡ sheetListing (now (words .entry))) × (r ≤ length (now (text .exit))) ⌝ }
+{
+    let a = build(words, area, out);
+    if a != 0 {
+        return write_refusal(a, text);
+    }
+    list_built(out, text)
+}
+
+// The listing of a graph sheet; the rows are local, once.
+fn list_words(words: &[u16], text: &mut [u8]) -> usize
+    requires { ⌜ listingRoom ≤ length (now text) ⌝ }
+    ensures { λ r. ⌜ (take r (now (text .exit)) ≡ sheetListing (now (words .entry))) × (r ≤ length (now (text .exit))) ⌝ }
+{
+    let mut area = [0u8; MOST_CELLS];
+    let mut out = [0u16; MOST_WORDS];
+    list_in_rows(words, &mut area, &mut out, text)
+}
+
+// The listing of a file, from its first bytes and whether it has an odd number of them; answers the length of the text.
+pub fn list_file(bytes: &[u8], odd: bool, text: &mut [u8]) -> usize
+    requires { ⌜ length (now bytes) ≤ longerFile ⌝ }
+    requires { ⌜ listingRoom ≤ length (now text) ⌝ }
+    ensures { λ r. ⌜ r ≤ length (now (text .exit)) ⌝ }
+    ensures { λ r. ⌜ Lists (now (bytes .entry)) odd (take r (now (text .exit))) ⌝ }
+{
+    if odd {
+        return write_refusal(1, text);
+    }
+    let mut words = [0u16; FILE_WORDS];
+    let n = words_of(bytes, &mut words);
+    list_words(&words[..n], text)
+}
