@@ -5,7 +5,6 @@ use libc::STDIN_FILENO;
 use libc::STDOUT_FILENO;
 use list::list_file;
 use text::TEXT_SIZE;
-
 ghost use Prim.Native.Nat.{_<_, _≤_};
 ghost use lib.ListN.{length};
 ghost use Rattle.file_words.specs.Longer.{longerFile};

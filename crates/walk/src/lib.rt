@@ -27,6 +27,13 @@ pub struct Moved {
 }
 
 impl Walk {
+    // the limits of a walk in shape: blocks of a graph sheet, copies of a bounded one, and one more move than the largest budget
+    pub const MOST_BLOCKS: usize = graph_words::MOST_BLOCKS;
+
+    pub const MOST_COPIES: usize = bounded_words::MOST_COPIES;
+
+    pub const MOST_MOVES: usize = graph_words::MOST_BUDGET + 1;
+
     // "place 1, count 0"
     pub const FIRST_PLACE: u16 = 1;
 
