@@ -23,13 +23,13 @@ use bounded_words::budget;
 use bounded_words::copies;
 use bounded_words::edges;
 use bounded_words::first_at;
-use bounded_words::is_outside;
 use bounded_words::low_at;
 use bounded_words::next_at;
 use bounded_words::target_at;
 use graph_words::HEADER_WORDS;
 use graph_words::MOST_BLOCKS;
 use graph_words::MOST_BUDGET;
+use graph_words::is_outside;
 
 // THE HEADER AND THE LENGTH
 

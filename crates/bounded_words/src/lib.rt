@@ -3,7 +3,6 @@
 ghost use mathlib.Core.Path.{_≡_};
 ghost use Prim.Native.Nat.{_<_, _≤_};
 ghost use lib.ListN.{length};
-ghost use Rattle.base.specs.Checks.{outside};
 ghost use Rattle.formats.specs.Limits.{wordLimit};
 ghost use Rattle.formats.specs.BoundedSheet.{heading, blockAt, lowAt, firstAt, targetAt, nextAt};
 ghost use Rattle.bounded_words.specs.Formed.{Formed};
@@ -18,16 +17,6 @@ pub const MOST_COPIES: usize = 4096;
 pub const LEAST_BOUNDED_EDGES: usize = 1;
 
 pub const MOST_BOUNDED_EDGES: usize = 8192;
-
-// A number outside the limits lo to hi.
-pub fn is_outside(lo: usize, hi: usize, n: usize) -> bool
-    ensures { λ r. ⌜ r ≡ outside lo hi n ⌝ }
-{
-    if n < lo {
-        return true;
-    }
-    hi < n
-}
 
 // C
 pub fn copies(s: &[u16]) -> usize

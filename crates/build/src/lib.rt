@@ -16,17 +16,13 @@ ghost use Rattle.build.specs.Within.{answerAt, outputAt, built};
 use bounded_words::MOST_BOUNDED_EDGES;
 use bounded_words::MOST_COPIES;
 use descend::reach;
-use graph_words::MOST_BLOCKS;
-use graph_words::MOST_BUDGET;
+use graph_words::MOST_CELLS;
 use graph_words::budget;
 use lows::fill_lows;
 use number::count_edges;
 use number::number;
 use weigh_sheet::weigh_sheet;
 use write::write_sheet;
-
-// The most cells of a work area.
-const MOST_CELLS: usize = MOST_BLOCKS * (MOST_BUDGET + 1);
 
 // Marks exactly the copies of a weighed graph sheet within the budget b; the table is the look-up's row meanwhile.
 fn find_copies(s: &[u16], area: &[u8], table: &mut [u16], marks: &mut [u8], b: usize)

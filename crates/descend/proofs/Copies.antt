@@ -25,17 +25,8 @@ use Rattle.calls.proofs.SheetLaws.{well-formed, settingAt}
 use Rattle.cells.specs.Cells.{Within}
 use Rattle.cells.proofs.Cells.{cell-inside}
 use Rattle.tables.specs.Tables.{optionOf, sheetCopiesAt}
+use Rattle.tables.proofs.Options.{option-none, option-some}
 use Rattle.descend.specs.Marks.{Due, AllDue, Ready}
-
--- an option as a number
-pub no-option : (x : ℕ) → x ≡ 0 → optionOf x ≡ none
-unfolding optionOf
-no-option x e = ap optionOf e
-
-pub some-option : (x : ℕ) → (x ≡ 0 → ⊥) → optionOf x ≡ some (x - 1)
-unfolding optionOf
-some-option zero n = absurd (n refl)
-some-option (suc x) n = let k : x ≡ suc x - 1 = omega arith in ap some k
 
 -- an option that is not none
 pub there-is : (o : Option ℕ) → isNone o ≡ false → (a : ℕ) × (o ≡ some a)
@@ -45,7 +36,7 @@ there-is (some a) e = (a, refl)
 
 -- the copy of a number that is not 0
 pub due-copy : {w : List ℕ} {b v : ℕ} (x : ℕ) → (x ≡ 0 → ⊥) → Due w b v (optionOf x) → List·Memᴰ (copyOf v (x - 1)) (sheetCopiesAt w b)
-due-copy x n d = d .is-due (x - 1) (some-option x n)
+due-copy x n d = d .is-due (x - 1) (option-some x refl n)
 
 module _ {w : List ℕ} {b : ℕ} {lows marks : List ℕ} (R : Ready w b lows marks) where
   laws : WellFormed (graph w)
@@ -137,10 +128,10 @@ module _ {w : List ℕ} {b : ℕ} {lows marks : List ℕ} (R : Ready w b lows ma
 
     pub start-some : x ≡ 0 → ⊥
     unfolding isNone
-    start-some z = not-both (ap isNone (sym number ∙ no-option x z)) (R .opens)
+    start-some z = not-both (ap isNone (sym number ∙ option-none x refl z)) (R .opens)
 
     pub start-low : lowOf (graph w) 1 b ≡ some (x - 1)
-    start-low = sym number ∙ some-option x start-some
+    start-low = sym number ∙ option-some x refl start-some
 
     pub start-copy : List·Memᴰ (copyOf 1 (x - 1)) (sheetCopiesAt w b)
     start-copy = start-in setting (record { budget = b; named = List·Memᴰ·head refl; low = x - 1; fits = start-low })

@@ -4,7 +4,7 @@ ghost use mathlib.Core.Path.{_≡_};
 ghost use mathlib.Core.Bool.{true, false};
 ghost use Prim.Native.Nat.{suc, _≤_};
 ghost use lib.ListN.{length};
-ghost use Rattle.base.specs.Checks.{refused, outside};
+ghost use Rattle.base.specs.Checks.{refused};
 ghost use Rattle.formats.specs.Limits.{mostEdges};
 ghost use Rattle.formats.specs.Words.{chainLength};
 ghost use Rattle.formats.specs.GraphSheet.{header, nextWord, badCounts, badLength, costFits, badCosts, badTargets, badChains};
@@ -24,18 +24,9 @@ use graph_words::budget;
 use graph_words::cost_of;
 use graph_words::edges;
 use graph_words::first_of;
+use graph_words::is_outside;
 use graph_words::next_of;
 use graph_words::target_of;
-
-// A number outside the limits lo to hi.
-fn is_outside(lo: usize, hi: usize, n: usize) -> bool
-    ensures { λ r. ⌜ r ≡ outside lo hi n ⌝ }
-{
-    if n < lo {
-        return true;
-    }
-    hi < n
-}
 
 // Condition 2: N or E outside its limits.
 fn bad_counts(s: &[u16]) -> bool

@@ -3,6 +3,7 @@
 ghost use mathlib.Core.Path.{_≡_};
 ghost use Prim.Native.Nat.{_<_, _≤_};
 ghost use lib.ListN.{length};
+ghost use Rattle.base.specs.Checks.{outside};
 ghost use Rattle.formats.specs.Limits.{wordLimit};
 ghost use Rattle.formats.specs.Words.{word};
 ghost use Rattle.formats.specs.GraphSheet.{header, costWord, firstWord, targetWord, nextWord};
@@ -19,8 +20,21 @@ pub const MOST_EDGES: usize = 512;
 
 pub const MOST_BUDGET: usize = 500;
 
+// N × (B + 1) at most: the cells of the largest work area.
+pub const MOST_CELLS: usize = MOST_BLOCKS * (MOST_BUDGET + 1);
+
 // The words of the header; the records begin behind them.
 pub const HEADER_WORDS: usize = 3;
+
+// A number outside the limits lo to hi.
+pub fn is_outside(lo: usize, hi: usize, n: usize) -> bool
+    ensures { λ r. ⌜ r ≡ outside lo hi n ⌝ }
+{
+    if n < lo {
+        return true;
+    }
+    hi < n
+}
 
 // One word of a row.
 pub fn word_at(s: &[u16], i: usize) -> usize

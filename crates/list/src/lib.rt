@@ -19,17 +19,14 @@ use build::build;
 use file_words::LONGER_FILE;
 use file_words::words_of;
 use graph_words::HEADER_WORDS;
-use graph_words::MOST_BLOCKS;
-use graph_words::MOST_BUDGET;
+use graph_words::MOST_CELLS;
 use text::write_listing;
 use text::write_refusal;
 
 // The words of as many bytes as are read of a file.
 const FILE_WORDS: usize = LONGER_FILE / 2;
 
-// The most cells of a work area, and the most words of a bounded sheet: no build in such rows answers 21 or 22.
-const MOST_CELLS: usize = MOST_BLOCKS * (MOST_BUDGET + 1);
-
+// The most words of a bounded sheet: no build in such a row, and with the most cells of a work area, answers 21 or 22.
 const MOST_WORDS: usize = HEADER_WORDS + 3 * MOST_COPIES + 2 * MOST_BOUNDED_EDGES;
 
 // The listing of the bounded sheet with which a row begins.

@@ -26,16 +26,7 @@ use Rattle.calls.specs.Weigh.{beforeWeighing}
 use Rattle.calls.proofs.SheetLaws.{well-formed}
 use Rattle.look.proofs.Laws.{is-low}
 use Rattle.tables.specs.Tables.{optionOf}
-
--- an option as a number
-pub option-none : (x : ℕ) {o : Option ℕ} → optionOf x ≡ o → x ≡ 0 → o ≡ none
-unfolding optionOf
-option-none x e z = sym e ∙ ap optionOf z
-
-pub option-some : (x : ℕ) {o : Option ℕ} → optionOf x ≡ o → (x ≡ 0 → ⊥) → o ≡ some (x - 1)
-unfolding optionOf
-option-some zero e n = absurd (n refl)
-option-some (suc x) e n = let p : suc x - 1 ≡ x = omega arith in rw p (sym e)
+use Rattle.tables.proofs.Options.{option-none, option-some}
 
 -- A MACHINE, where the k-th target is x - 1, if any
 module _ {S : Type 0} (m : Machine S ℕ) (s : S) (k : ℕ) where

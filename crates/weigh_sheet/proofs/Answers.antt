@@ -24,6 +24,7 @@ use Rattle.calls.specs.Area.{areaSize, filled, Table}
 use Rattle.calls.specs.Weigh.{Weighing, sheetArea, smallArea, nothingFits, weighOrder, beforeWeighing, areaAfter, weighed}
 use Rattle.calls.proofs.Area.{filled-table}
 use Rattle.tables.specs.Tables.{optionOf}
+use Rattle.tables.proofs.Options.{option-none, option-some}
 use Rattle.base.proofs.Orders.{pick, tested, append-stops, append-passes, over-is}
 
 -- an order answers one of its numbers
@@ -47,17 +48,6 @@ sheet-most w = refused-most 8 sheetOrder w refl
 sheet-before : (r : ℕ) → 1 ≤ r → r ≤ 8 → beforeWeighing r ≡ true
 unfolding beforeWeighing
 sheet-before r p q = or-l (eqb r 21) (ap not (not-outside 1 8 r p q))
-
--- a look-up of block 1
-none-is : (x : ℕ) (o : Option ℕ) → optionOf x ≡ o → x ≡ 0 → isNone o ≡ true
-unfolding optionOf isNone
-none-is zero o e z = ap isNone (sym e)
-none-is (suc x) o e z = absurd (omega arith)
-
-some-is : (x : ℕ) (o : Option ℕ) → optionOf x ≡ o → (x ≡ 0 → ⊥) → isNone o ≡ false
-unfolding optionOf isNone
-some-is zero o e n = absurd (n refl)
-some-is (suc x) o e n = ap isNone (sym e)
 
 module _ (w area : List ℕ) where
   abbrev i : Weighing
@@ -134,9 +124,9 @@ module _ (w area : List ℕ) where
           changes r t = rw (t, areaAfter) (f ∙ ap (λ (b : ℕ). filled (graph w) (header w .blocks) b area) q)
 
           pub nothing-fits : {x : ℕ} → optionOf x ≡ lowOf (graph w) 1 b → x ≡ 0 → Answers 9 after
-          unfolding nothingFits beforeWeighing outside
-          nothing-fits {x} e z = answers 9 (passes (none-is x _ (e ∙ ap (lowOf (graph w) 1) q) z)) (changes 9 refl)
+          unfolding nothingFits beforeWeighing outside isNone
+          nothing-fits {x} e z = answers 9 (passes (ap isNone (option-none x (e ∙ ap (lowOf (graph w) 1) q) z))) (changes 9 refl)
 
           pub something-fits : {x : ℕ} → optionOf x ≡ lowOf (graph w) 1 b → (x ≡ 0 → ⊥) → Answers 0 after
-          unfolding nothingFits beforeWeighing outside
-          something-fits {x} e n = answers 0 (passes (some-is x _ (e ∙ ap (lowOf (graph w) 1) q) n)) (changes 0 refl)
+          unfolding nothingFits beforeWeighing outside isNone
+          something-fits {x} e n = answers 0 (passes (ap isNone (option-some x (e ∙ ap (lowOf (graph w) 1) q) n))) (changes 0 refl)

@@ -14,7 +14,8 @@ use Rattle.graph_words.proofs.target_of.Reads as target-of
 use Rattle.tables.proofs.entry.Reads as entry
 use Rattle.tables.proofs.is_marked.Reads as is-marked
 use Rattle.tables.proofs.mark.Reads as mark
-use Rattle.descend.proofs.Copies.{no-option, some-option, due-copy, formed, copy-fits, next-due, costs-some, cost-is}
+use Rattle.tables.proofs.Options.{option-none, option-some}
+use Rattle.descend.proofs.Copies.{due-copy, formed, copy-fits, next-due, costs-some, cost-is}
 use Rattle.descend.proofs.Marks.{met-none, met-some, grown-same, exit-met, ready-on, visited}
 use Rattle.descend.proofs.Trail.{Trail, trail-start, trail-end, trail-out, edge-inside, target-fits, target-cell}
 use Rattle.descend.proofs.Trail.{number-small, number-due, trail-on}
@@ -158,7 +159,7 @@ module _ (t : ℕ) where
   visit-returns : visit-lts.Need-returns visit-calls visit-at visit.Post
   visit-returns c =
       let z = c .before .before .before .before in
-      (z .pre .1 .0, (grown-same _, met-none (no-option _ (c .if1 .taken))))
+      (z .pre .1 .0, (grown-same _, met-none (option-none _ refl (c .if1 .taken))))
 
   visit-is-marked-requires : visit-lts.Need-is-marked-requires visit-calls visit-at visit.Post
   visit-is-marked-requires c κs =
@@ -168,7 +169,7 @@ module _ (t : ℕ) where
   visit-returns-2 : visit-lts.Need-returns-2 visit-calls visit-at visit.Post
   visit-returns-2 c =
       let z = c .before .before .before .before .before .before .before in
-      let o = some-option (z .args .x) (c .before .before .before .if1 .left) in
+      let o = option-some (z .args .x) refl (c .before .before .before .if1 .left) in
       (z .pre .1 .0, (grown-same _, met-some o (sym (c .before .is-marked .ensures) ∙ c .if2 .taken)))
 
   visit-mark-requires : visit-lts.Need-mark-requires visit-calls visit-at visit.Post
@@ -184,7 +185,7 @@ module _ (t : ℕ) where
       let R = z .pre .1 .0 in
       let i = due-copy (z .args .x) n (z .pre .1 .1 .1) in
       let e = d .mark .ensures in
-      visited R i e (some-option (z .args .x) n) refl (ready-on R i e, (grown-same _, exit-met _ _ _ (R .ok) (omega arith)))
+      visited R i e (option-some (z .args .x) refl n) refl (ready-on R i e, (grown-same _, exit-met _ _ _ (R .ok) (omega arith)))
 
   visit-cost-of-requires : visit-lts.Need-cost-of-requires visit-calls visit-at visit.Post
   visit-cost-of-requires c κs =
@@ -223,7 +224,7 @@ module _ (t : ℕ) where
       let R = z .pre .1 .0 in
       let i = due-copy (z .args .x) n (z .pre .1 .1 .1) in
       let r = ap (λ (y : ℕ). z .args .x - 1 - y) (c .before .before .before .before .cost-of .ensures .0 ∙ cost-is R (z .args .v)) in
-      visited R i (d .mark .ensures) (some-option (z .args .x) n) r (c .before .before .follow .ensures)
+      visited R i (d .mark .ensures) (option-some (z .args .x) refl n) r (c .before .before .follow .ensures)
 
 pub +follow+visit-spec : {M : Type 1} → statement M
 +follow+visit-spec =

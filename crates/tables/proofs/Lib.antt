@@ -1,0 +1,2 @@
+-- an option as a number: option-none, option-some
+pub mod Options
