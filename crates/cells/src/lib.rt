@@ -1,9 +1,8 @@
 // The cells of the work area: the only functions that touch it. Below the public calls.
 // Rests on nothing; the contracts cite calls Area, "which costs an area stands for".
 ghost use mathlib.Core.Path.{_≡_};
-ghost use Prim.Native.Nat.{_≤_, _<_};
+ghost use Prim.Native.Nat.{_<_};
 ghost use lib.ListN.{length, set};
-ghost use Rattle.formats.specs.Limits.{mostBlocks, mostBudget};
 ghost use Rattle.calls.specs.Area.{cellOf, byteOf, stands};
 ghost use Rattle.cells.specs.Cells.{Within};
 

@@ -1,6 +1,5 @@
 -- `build::build_weighed` meets its contract: the local rows are long enough, and clear.
 -- Rests on `build_in_rows`, Passed.
-use Prim.Native.Nat.{_≤_}
 use borrow.Author.Needs.{needs}
 use lib.ListN.{length-replicate}
 use Rattle.build.proofs.Passed.{few-cells, zeros-clear}

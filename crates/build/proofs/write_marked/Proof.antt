@@ -1,6 +1,6 @@
 -- `build::write_marked` meets its contract: 10 by the copies, else what `write_numbered` answers.
 -- Rests on number `number`, Answers.
-use mathlib.Core.Path.{_≡_, refl, sym}
+use mathlib.Core.Path.{refl, sym}
 use native.Mathlib.Omega.{arith}
 use borrow.Author.Needs.{needs}
 use lib.ListN.{length}

@@ -1,7 +1,7 @@
 -- `build::write_numbered` meets its contract: 10 by the edges, 22 by the length, else the words.
 -- Rests on number `count_edges`, write `write_sheet`, Answers.
-use mathlib.Core.Path.{_≡_, refl, sym}
-use Prim.Native.Nat.{ℕ, _+_, _*_, _≤_, _<_}
+use mathlib.Core.Path.{refl, sym}
+use Prim.Native.Nat.{_≤_, _<_}
 use native.Mathlib.Omega.{arith}
 use borrow.Author.Needs.{needs}
 use lib.ListN.{length}

@@ -2,7 +2,7 @@
 -- Rests on list_sheet.
 use mathlib.Core.Path.{_≡_}
 use borrow.Author.Needs.{needs}
-use lib.ListN.{length, length-replicate}
+use lib.ListN.{length}
 use Rattle.file_words.specs.Longer.{longerFile}
 use Rattle.text.specs.Texts.{listingRoom}
 use Rattle.corpus.proofs.main.Statement.{statement}

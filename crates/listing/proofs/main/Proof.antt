@@ -1,7 +1,6 @@
 -- `listing::main` is safe and ends.
 -- Rests on list `list_file`.
 use mathlib.Core.Path.{sym}
-use native.Mathlib.Omega.{arith}
 use borrow.Author.Needs.{needs}
 use lib.Seq.{length-take-le}
 use Rattle.listing.proofs.main.Statement.{statement}

@@ -1,6 +1,5 @@
 -- `number::degree` meets its contract.
 -- Rests on graph_check `successor_count`, Edges.
-use borrow.Author.Needs.{needs}
 use Rattle.number.proofs.Edges.{degree-is}
 use Rattle.number.proofs.degree.Statement.{statement}
 use Rattle.number.proofs.degree.Tie as tie

@@ -3,7 +3,6 @@
 use Prim.Native.Nat.{_*_, _≤_}
 use native.Mathlib.Omega.{arith}
 use native.Mathlib.Nat.{mul-le-mul}
-use borrow.Author.Needs.{needs}
 use Rattle.rows.proofs.product.Statement.{statement}
 use Rattle.rows.proofs.product.Tie as tie
 
