@@ -67,12 +67,11 @@ returns-2 c =
     let p = sym (e .0) ∙ f .before .before .before .before .if1 .left in
     let b = f .before .before .before .budget .ensures .0 in
     let r = f .build-weighed .ensures in
-    let a = r .0 ∙ ap (λ (b : ℕ). answerAt w b (length out)) b in (
+    let a = r .0 ∙ ap (λ (b : ℕ). answerAt w b (length out)) b in
+    let o = r .1 ∙ ap (λ (b : ℕ). outputAt w b (f .build-weighed .result) out) b in
+    let g = ap (λ (x : ℕ). outputAt w (header w .budget) x out) a in (
       a ∙ sym (passed-answer w area out p),
-      (
-        e .1 ∙ sym (passed-area w area out p),
-        r .1 ∙ ap (λ (b : ℕ). outputAt w b (f .build-weighed .result) out) b ∙ ap (λ (x : ℕ). outputAt w (header w .budget) x out) a ∙ sym (passed-output w area out p),
-      ),
+      (e .1 ∙ sym (passed-area w area out p), o ∙ g ∙ sym (passed-output w area out p)),
     )
 
 pub build-spec : {M : Type 1} → statement M
