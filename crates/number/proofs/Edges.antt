@@ -11,7 +11,7 @@ use Rattle.formats.specs.BoundedSheet.{Row, edgeCount}
 use Rattle.formats.proofs.Accepted.{accepted, successors-counted}
 use Rattle.calls.specs.SheetGraph.{graph, rowOf, rowsOf}
 use Rattle.tables.specs.Tables.{sheetCopiesAt}
-use Rattle.number.specs.Rows.{sheetRowsAt, sheetRowAt}
+use Rattle.tables.specs.Rows.{sheetRowsAt, sheetRowAt}
 use Rattle.number.proofs.Rest.{rest}
 
 pub degree-is : (w : List ℕ) → sheetRefusal w ≡ 0 → (v n : ℕ) → 1 ≤ v → v ≤ header w .blocks → n ≡ successorCount (header w) w v

@@ -2,7 +2,5 @@
 -- Rests on formats, calls.
 -- the cells in order: a cell's block and low, the next marked cell
 pub mod Scan
--- the rows of the bounded sheet within a budget
-pub mod Rows
 -- an entry of the numbers by the entry before it
 pub mod Entries

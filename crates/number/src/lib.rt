@@ -11,7 +11,7 @@ ghost use Rattle.calls.specs.Area.{cellOf, areaSize, byteOf, stands, Table};
 ghost use Rattle.cells.specs.Cells.{Within};
 ghost use Rattle.tables.specs.Tables.{sheetCopiesAt, Exactly, Numbers};
 ghost use Rattle.number.specs.Scan.{mostCells, IsCell, NextMarked};
-ghost use Rattle.number.specs.Rows.{sheetRowsAt};
+ghost use Rattle.tables.specs.Rows.{sheetRowsAt};
 ghost use Rattle.number.specs.Entries.{entryBefore, nextEntry};
 use cells::is_set;
 use graph_check::successor_count;

@@ -4,7 +4,7 @@ use mathlib.Core.Path.{_≡_}
 use mathlib.Core.Bool.{Bool, not}
 use mathlib.Core.List.{List, [], _∷_}
 use mathlib.Core.Option.{Option, some, none}
-use Prim.Native.Nat.{ℕ, zero, suc, _≤_}
+use Prim.Native.Nat.{ℕ, zero, suc, _≤_, _<_}
 use lib.Dec.{eqb}
 use lib.ListN.{length, getD}
 use Rattle.base.specs.Copy.{Copy, copyOf, isIn}
@@ -42,3 +42,8 @@ pub record Numbers (w : List ℕ) (b : ℕ) (numbers : List ℕ) : Type 0 where
   pub room : areaSize (header w .blocks) b ≤ length numbers
   pub cells : (v r : ℕ) → 1 ≤ v → v ≤ header w .blocks → r ≤ b
       → getD numbers (cellOf b v r) 0 ≡ targetNumber (sheetCopiesAt w b) (copyFor (graph w) r v)
+
+-- DEGREES: the entry of v is the number of its successors
+pub record Degrees (w : List ℕ) (degrees : List ℕ) : Type 0 where
+  pub room : header w .blocks < length degrees
+  pub entries : (v : ℕ) → 1 ≤ v → v ≤ header w .blocks → getD degrees v 0 ≡ length (graph w .next v)

@@ -21,7 +21,7 @@ use Rattle.tables.specs.Tables.{sheetCopiesAt, Numbers}
 use Rattle.chains.specs.Rest.{edgesFrom, targetsFrom, Rest}
 use Rattle.formats.proofs.Chains.{follow-end, follow-out}
 use Rattle.chains.proofs.Rest.{rest-start, targets-start, edge-fits, is-successor, rest-on, targets-on}
-use Rattle.number.specs.Rows.{sheetRowAt}
+use Rattle.tables.specs.Rows.{sheetRowAt}
 use Rattle.write.specs.Put.{putWords}
 use Rattle.write.proofs.Put.{put-none, put-length, put-more}
 

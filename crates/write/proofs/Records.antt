@@ -11,7 +11,7 @@ use Rattle.formats.specs.BoundedSheet.{Row, firstEdge, edgeRecords, copyWords, 
 use Rattle.formats.proofs.Reading.{copyWords-length, edgeRecords-length, edgeWords-length}
 use Rattle.calls.specs.SheetGraph.{graph, rowOf, rowsOf}
 use Rattle.tables.specs.Tables.{sheetCopiesAt}
-use Rattle.number.specs.Rows.{sheetRowsAt, sheetRowAt}
+use Rattle.tables.specs.Rows.{sheetRowsAt, sheetRowAt}
 use Rattle.number.specs.Scan.{IsCell, NextMarked}
 use Rattle.number.proofs.Rest.{rest, Scan, AtCopy, at-first, at-here, at-next, at-end}
 use Rattle.number.proofs.Edges.{rows, row-length, edges-start, edges-on}

@@ -9,7 +9,7 @@ use Rattle.formats.specs.BoundedSheet.{Row, copyWords, edgeWords, edgeCount, sh
 use Rattle.formats.proofs.Reading.{copyWords-length, edgeWords-length}
 use Rattle.calls.specs.SheetGraph.{rowsOf}
 use Rattle.tables.specs.Tables.{sheetCopiesAt}
-use Rattle.number.specs.Rows.{sheetRowsAt, sheetRowAt}
+use Rattle.tables.specs.Rows.{sheetRowsAt, sheetRowAt}
 use Rattle.write.specs.Put.{putWords}
 use Rattle.write.proofs.Put.{put-more}
 

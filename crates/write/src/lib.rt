@@ -10,7 +10,7 @@ ghost use Rattle.formats.specs.GraphSheet.{header, sheetRefusal};
 ghost use Rattle.formats.specs.BoundedSheet.{firstEdge, edgeRecords, copyWords, edgeWords, edgeCount, sheetWords};
 ghost use Rattle.calls.specs.SheetGraph.{graph};
 ghost use Rattle.tables.specs.Tables.{sheetCopiesAt, Exactly, Numbers};
-ghost use Rattle.number.specs.Rows.{sheetRowsAt, sheetRowAt};
+ghost use Rattle.tables.specs.Rows.{sheetRowsAt, sheetRowAt};
 ghost use Rattle.write.specs.Put.{putWords};
 use graph_words::HEADER_WORDS;
 use graph_words::cost_of;

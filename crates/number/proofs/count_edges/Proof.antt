@@ -5,7 +5,7 @@ use Prim.Native.Nat.{suc, _+_, _-_, _*_, _≤_}
 use native.Mathlib.Omega.{arith}
 use Rattle.formats.specs.Limits.{mostEdges}
 use Rattle.formats.specs.BoundedSheet.{edgeCount}
-use Rattle.number.specs.Rows.{sheetRowsAt}
+use Rattle.tables.specs.Rows.{sheetRowsAt}
 use Rattle.number.proofs.Rest.{rest, AtCopy, scan-of, scan-room, cell-fits, at-first, at-next, at-end}
 use Rattle.number.proofs.Edges.{rows, edges-start, edges-on, edges-end}
 use Rattle.number.proofs.count_edges.Statement.{statement}
