@@ -6,7 +6,7 @@ use Prim.Native.Nat.{ℕ, _≤_}
 use native.Mathlib.Omega.{arith}
 use Rattle.base.proofs.Lists.{chosen-some}
 use Rattle.base.specs.Checks.{refused}
-use Rattle.formats.specs.BoundedSheet.{Row, edgeRecords, sheetWords, heading, firstAt, targetsAt, edgePart}
+use Rattle.formats.specs.BoundedSheet.{Row, edgeRecords, sheetWords, heading, firstAt, targetsAt, partStart, edgePart}
 use Rattle.formats.specs.Rule11.{boundedOrder, boundedRefusal, CopyIn, partOrder, handOut}
 use Rattle.base.proofs.Orders.{passed, none-left, over-i, not-outside}
 use Rattle.formats.proofs.Reading.{laid, part-reads}
@@ -30,11 +30,12 @@ part-of t ok i p l =
         part-reads (heading (sheetWords b rs)) (sheetWords b rs) rs (laid b rs) i (r .0) (r .1)
 
 pub handed-out : (t : List ℕ) → boundedRefusal t ≡ 0 → (i : ℕ) → 1 ≤ i → i ≤ heading t .copies
-    → handOut t i ≡ record { answer = 0; words = edgeRecords (firstAt (heading t) t i) (targetsAt (heading t) t i) }
+    → handOut t i
+    ≡ record { answer = 0; start = partStart t i; words = edgeRecords (firstAt (heading t) t i) (targetsAt (heading t) t i) }
 unfolding handOut partOrder boundedRefusal
 handed-out t ok i p l =
     let x : CopyIn = record { sheet = t; copy = i } in
     let e : refused partOrder x ≡ 0
     = over-i (λ i. i .sheet) boundedOrder _ x bounded-numbered ok
     (passed 33 _ _ x (not-outside 1 (heading t .copies) i p l) (none-left x)) in
-    rw (e, handOut) (ap (λ (l : List ℕ). record { answer = 0; words = l }) (part-of t ok i p l))
+    rw (e, handOut) (ap (λ (l : List ℕ). record { answer = 0; start = partStart t i; words = l }) (part-of t ok i p l))

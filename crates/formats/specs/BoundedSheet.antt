@@ -86,8 +86,9 @@ module _ (h : Heading) (s : List ℕ) where
   unfoldable pub targetsAt : ℕ → List ℕ
   targetsAt i = map targetAt (chainAt i)
 
--- the edge words of one copy, which stand together
+-- the edge words of one copy, which stand together: the word at which they begin, counted from 0, and the words
+abbrev pub partStart : List ℕ → ℕ → ℕ
+partStart s i = let h = heading s in h .records + 3 * h .copies + 2 * (firstAt h s i - 1)
+
 unfoldable pub edgePart : List ℕ → ℕ → List ℕ
-edgePart s i =
-    let h = heading s in
-    take (2 * length (chainAt h s i)) (drop (h .records + 3 * h .copies + 2 * (firstAt h s i - 1)) s)
+edgePart s i = take (2 * length (chainAt (heading s) s i)) (drop (partStart s i) s)

@@ -9,7 +9,7 @@ use Rattle.base.specs.Lists.{any, keep, each, from, equal}
 use Rattle.base.specs.Copy.{before}
 use Rattle.base.specs.Checks.{Order, refused, over, outside}
 use Rattle.formats.specs.Limits.{mostBlocks, mostBudget, leastCopies, mostCopies, leastBoundedEdges, mostBoundedEdges}
-use Rattle.formats.specs.BoundedSheet.{Heading, heading, boundedLength, blockAt, lowAt, firstAt, targetAt, copyAt, chainAt, edgePart}
+use Rattle.formats.specs.BoundedSheet.{Heading, heading, boundedLength, blockAt, lowAt, firstAt, targetAt, copyAt, chainAt, partStart, edgePart}
 
 -- "under 3 words"
 unfoldable pub tooShort : List ℕ → Bool
@@ -81,13 +81,15 @@ pub record CopyIn : Type 0 where
 unfoldable pub partOrder : Order CopyIn
 partOrder = over (λ i. i .sheet) boundedOrder ++ ((33, λ i. outside 1 (heading (i .sheet) .copies) (i .copy)) ∷ [])
 
+-- where the part begins, counted from 0, is 0 under a refusal
 pub record Part : Type 0 where
   pub answer : ℕ
+  pub start : ℕ
   pub words : List ℕ
 
 unfoldable pub handOut : List ℕ → ℕ → Part
 handOut s i =
     elim (refused partOrder (record { sheet = s; copy = i })) [
-      | zero ↦ record { answer = 0; words = edgePart s i }
-      | suc n ↦ record { answer = suc n; words = [] }
+      | zero ↦ record { answer = 0; start = partStart s i; words = edgePart s i }
+      | suc n ↦ record { answer = suc n; start = 0; words = [] }
     ]

@@ -1,15 +1,25 @@
 // The public calls on numbers and slices, for C and Rust: a slice crosses as a pointer and a length, a walk as a row of three words.
 // Rests on graph_check, weigh_sheet, build, bounded_check, reader, moves; the promises are theirs, and specs WalkWords for the rows of a walk.
 ghost use mathlib.Core.Path.{_≡_};
-ghost use lib.ListN.{length};
+ghost use lib.ListN.{length, getD};
 ghost use Rattle.formats.specs.GraphSheet.{sheetRefusal, countSuccessors};
 ghost use Rattle.formats.specs.Rule11.{boundedRefusal, handOut};
+ghost use Rattle.theory.specs.Walks.{starting};
+ghost use Rattle.calls.specs.Moves.{monitoredMove, boundedMove};
 ghost use Rattle.calls.specs.Weigh.{weighed};
 ghost use Rattle.build.specs.Within.{built};
+ghost use Rattle.reader.specs.Placed.{Placed};
+ghost use Rattle.walk.specs.Walks.{endOf, walkOf};
+ghost use Rattle.gilstavo.specs.WalkWords.{endIn, endWord, walkIn, walkWords, rowAfter};
 use bounded_check::check_bounded;
 use build::build;
 use graph_check::check_graph;
 use graph_check::count_successors;
+use moves::bounded_move;
+use moves::monitored_move;
+use reader::edge_words_place;
+use walk::End;
+use walk::Walk;
 use weigh_sheet::weigh_sheet;
 
 // 1 to 8, else 0.
@@ -56,4 +66,124 @@ pub extern "C" fn gilstavo_check_bounded(sheet: &[u16]) -> u16
     ensures { λ r. ⌜ r ≡ boundedRefusal (now (sheet .entry)) ⌝ }
 {
     check_bounded(sheet)
+}
+
+// 11, 33, else 0; where the edge words of a copy stand in the sheet: the first word, counted from 0, and their number.
+#[no_mangle]
+pub extern "C" fn gilstavo_edge_words(
+    sheet: &[u16],
+    copy: u16,
+    start: &mut usize,
+    size: &mut usize,
+) -> u16
+    ensures { λ r. ⌜ r ≡ handOut (now (sheet .entry)) copy .answer ⌝ }
+    ensures { λ _. ⌜ Placed (now (sheet .entry)) (now (start .exit)) (now (size .exit))
+        (handOut (now (sheet .entry)) copy .start) (handOut (now (sheet .entry)) copy .words) ⌝ }
+{
+    let p = edge_words_place(sheet, copy);
+    *start = p.start;
+    *size = p.size;
+    p.answer
+}
+
+// WALKS
+
+// The end that a word up to 2 stands for.
+fn end_of(e: u16) -> End
+    ensures { λ r. ⌜ endOf r ≡ endIn e ⌝ }
+{
+    if e == 0 {
+        return End::Going;
+    }
+    if e == 1 {
+        return End::Exit;
+    }
+    End::Diverted
+}
+
+// The walk that three words stand for.
+fn walk_of(row: &[u16; 3]) -> Walk
+    ensures { λ r. ⌜ walkOf r ≡ walkIn (now (row .entry)) ⌝ }
+{
+    if 2 < row[2] {
+        return Walk {
+            place: 0,
+            count: 0,
+            end: End::Going,
+        };
+    }
+    let end = end_of(row[2]);
+    Walk {
+        place: row[0],
+        count: row[1],
+        end: end,
+    }
+}
+
+// The word of an end.
+fn end_word(end: End) -> u16
+    ensures { λ r. ⌜ r ≡ endWord (endOf end) ⌝ }
+{
+    match end {
+        End::Going => 0,
+        End::Exit => 1,
+        End::Diverted => 2,
+    }
+}
+
+// Writes a walk as three words.
+fn put_walk(row: &mut [u16; 3], w: Walk)
+    ensures { λ _. ⌜ now (row .exit) ≡ walkWords (walkOf w) ⌝ }
+{
+    let end = w.end;
+    let e = end_word(end);
+    *row = [w.place, w.count, e];
+}
+
+// The starting walk.
+#[no_mangle]
+pub extern "C" fn gilstavo_start(walk: &mut [u16; 3])
+    ensures { λ _. ⌜ now (walk .exit) ≡ walkWords starting ⌝ }
+{
+    let w = Walk::start();
+    put_walk(walk, w);
+}
+
+// 1 to 8, 21, 9, 33, 32, 31, else 0; a monitored move of a walk that is changed in place.
+#[no_mangle]
+pub extern "C" fn gilstavo_monitored_move(
+    sheet: &[u16],
+    area: &mut [u8],
+    walk: &mut [u16; 3],
+    choice: u16,
+) -> u16
+    ensures { λ r. ⌜ r
+        ≡ monitoredMove (now (sheet .entry)) (walkIn (now (walk .entry))) (record { choice = choice; area = now (area .entry) }) .answer ⌝ }
+    ensures { λ r. ⌜ now (walk .exit) ≡ rowAfter r (now (walk .entry))
+        (monitoredMove (now (sheet .entry)) (walkIn (now (walk .entry))) (record { choice = choice; area = now (area .entry) }) .walk) ⌝ }
+    ensures { λ _. ⌜ now (area .exit)
+        ≡ monitoredMove (now (sheet .entry)) (walkIn (now (walk .entry))) (record { choice = choice; area = now (area .entry) }) .area ⌝ }
+{
+    let w = walk_of(walk);
+    let m = monitored_move(sheet, area, w, choice);
+    if m.answer != 0 {
+        return m.answer;
+    }
+    put_walk(walk, m.walk);
+    0
+}
+
+// 11, 33, 32, 31, else 0; a bounded move of a walk that is changed in place.
+#[no_mangle]
+pub extern "C" fn gilstavo_bounded_move(sheet: &[u16], walk: &mut [u16; 3], choice: u16) -> u16
+    ensures { λ r. ⌜ r ≡ boundedMove (now (sheet .entry)) (walkIn (now (walk .entry))) choice .answer ⌝ }
+    ensures { λ r. ⌜ now (walk .exit) ≡ rowAfter r (now (walk .entry)) (boundedMove (now (sheet .entry)) (walkIn (now (walk .entry))) choice .after) ⌝ }
+{
+    let w = walk_of(walk);
+    let m = bounded_move(sheet, w, choice);
+    if m.answer != 0 {
+        return m.answer;
+    }
+    put_walk(walk, m.walk);
+    0
 }

@@ -4,12 +4,14 @@ use mathlib.Core.Path.{_≡_, refl, sym, _∙_}
 use mathlib.Core.Bool.{Bool}
 use mathlib.Core.List.{List, []}
 use Prim.Native.Nat.{ℕ, zero, suc, _≤_}
+use native.Mathlib.Omega.{arith}
 use Rattle.base.specs.Lists.{all}
 use Rattle.base.specs.Checks.{refused, over, outside}
 use Rattle.base.proofs.Orders.{unrefused, none-left, over-e, inside-of}
-use Rattle.formats.specs.BoundedSheet.{heading, edgePart}
+use Rattle.formats.specs.BoundedSheet.{heading, partStart, edgePart}
 use Rattle.formats.specs.Rule11.{boundedOrder, boundedRefusal, CopyIn, partOrder, handOut}
 use Rattle.formats.proofs.RuleKept.{bounded-numbered}
+use Rattle.reader.specs.Placed.{Placed}
 use Rattle.base.proofs.Orders.{pick, tested, append-stops, append-passes, over-is}
 
 module _ (s : List ℕ) (i : ℕ) where
@@ -25,17 +27,17 @@ module _ (s : List ℕ) (i : ℕ) where
       go zero e = rw (e, handOut)
       go (suc n) e = rw (e, handOut)
 
-  words-are : (n : ℕ) → handOut s i .answer ≡ n → handOut s i .words ≡ elim n [ zero ↦ edgePart s i | suc m ↦ [] ]
+  -- where the words stand, under a refusal and without
+  pub refused-place : (n : ℕ) → n ≡ handOut s i .answer → (n ≡ 0 → ⊥) → Placed s 0 0 (handOut s i .start) (handOut s i .words)
   unfolding handOut
-  words-are zero e = rw (sym answer-is ∙ e, handOut)
-  words-are (suc n) e = rw (sym answer-is ∙ e, handOut)
+  refused-place zero e z = absurd (z refl)
+  refused-place (suc n) e z =
+      rw (sym answer-is ∙ sym e, handOut) (record { is-start = refl; is-size = refl; inside = omega arith; are-words = refl })
 
-  pub no-words : (n : ℕ) → n ≡ handOut s i .answer → (n ≡ 0 → ⊥) → [] ≡ handOut s i .words
-  no-words zero e z = absurd (z refl)
-  no-words (suc n) e z = sym (words-are (suc n) (sym e))
-
-  pub its-words : handOut s i .answer ≡ 0 → handOut s i .words ≡ edgePart s i
-  its-words e = words-are 0 e
+  pub accepted-place : {a k : ℕ} → handOut s i .answer ≡ 0 → Placed s a k (partStart s i) (edgePart s i)
+      → Placed s a k (handOut s i .start) (handOut s i .words)
+  unfolding handOut
+  accepted-place e P = rw (sym answer-is ∙ e, handOut) P
 
   pub accepted : handOut s i .answer ≡ 0 → (boundedRefusal s ≡ 0) × ((1 ≤ i) × (i ≤ heading s .copies))
   unfolding partOrder boundedRefusal

@@ -3,18 +3,19 @@
 use mathlib.Core.Path.{_≡_, refl, sym, ap, subst, _∙_}
 use mathlib.Core.List.{List, [], _∷_, List·Memᴰ, List·Memᴰ·head, List·Memᴰ·tail}
 use Prim.Native.Nat.{ℕ, suc, _+_, _*_, _-_, _≤_, _<_}
-use native.Mathlib.Nat.{add-sub-cancel-left}
 use native.Mathlib.Omega.{arith}
 use lib.ListN.{length, take, drop, length-take, length-drop, length-map}
 use Rattle.base.specs.Lists.{from}
 use Rattle.base.proofs.Lists.{each-i, from-i, from-e}
-use Rattle.formats.specs.BoundedSheet.{heading, firstAt, nextAt, targetAt, chainAt, targetsAt, edgePart}
+use Rattle.formats.specs.BoundedSheet.{heading, firstAt, nextAt, targetAt, chainAt, targetsAt, partStart, edgePart}
 use Rattle.formats.specs.Rule11.{boundedRefusal}
 use Rattle.formats.proofs.Reading.{edgeRecords-length, met}
 use Rattle.formats.proofs.RuleRead.{clauses, rows, laid-out}
 use Rattle.formats.proofs.Parts.{part-of}
 use Rattle.formats.proofs.Chains.{follow-end, follow-out, follow-more}
+use Rattle.bounded_words.proofs.Formed.{formed-of}
 use Rattle.bounded_check.specs.Chains.{chainFrom}
+use Rattle.reader.specs.Placed.{Placed}
 
 module _ (s : List ℕ) where
   abbrev F : ℕ
@@ -68,31 +69,60 @@ module _ (s : List ℕ) where
 
   -- THE WORDS OF A CHAIN
 
-  pub no-edges : (i : ℕ) {x : ℕ} → x ≡ firstAt (heading s) s i → x ≡ 0 → [] ≡ edgePart s i
-  unfolding edgePart chainAt
-  no-edges i q z = rw (follow-end (nextAt (heading s) s) (suc F) (firstAt (heading s) s i) (sym q ∙ z))
-
   -- the place of a copy's words: behind n copies, from its first edge x on
   abbrev pub start : ℕ → ℕ → ℕ
   start n x = 3 + 3 * n + 2 * (x - 1)
 
-  module _ (i : ℕ) {n x k : ℕ} (p : n ≡ heading s .copies) (q : x ≡ firstAt (heading s) s i)
-      (r : k ≡ length (chainAt (heading s) s i)) where
-    pub part-is : take (start n x + 2 * k - start n x) (drop (start n x) s) ≡ edgePart s i
-    unfolding edgePart heading
-    part-is = rw (add-sub-cancel-left, p, q, r)
+  module _ (i : ℕ) {n x : ℕ} (p : n ≡ heading s .copies) (q : x ≡ firstAt (heading s) s i) where
+    start-is : start n x ≡ partStart s i
+    unfolding heading
+    start-is = rw (p, q)
 
-    pub part-fits : boundedRefusal s ≡ 0 → (1 ≤ i) × (i ≤ heading s .copies) → (x ≡ 0 → ⊥) → start n x + 2 * k ≤ length s
-    unfolding targetsAt chainAt
-    part-fits ok l z =
-        let h = heading s in
-        let c = chainAt h s i in
-        let e = ap length (part-is ∙ part-of s ok i (l .0) (l .1)) ∙ edgeRecords-length (firstAt h s i) (targetsAt h s i) in
-        let f : start n x + 2 * k - start n x ≡ 2 * k = omega arith in
-        let one = ap length (follow-more (nextAt h s) (suc F) (firstAt h s i) (omega arith) (λ y. z (q ∙ y))) in
-        omega (
-          arith,
-          length-take (start n x + 2 * k - start n x) (drop (start n x) s),
-          length-drop (start n x) s,
-          length-map c (targetAt h s),
-        )
+    three : heading s .records ≡ 3
+    unfolding heading
+    three = refl
+
+    pub no-edges : boundedRefusal s ≡ 0 → x ≡ 0 → Placed s (3 + 3 * n) 0 (partStart s i) (edgePart s i)
+    unfolding edgePart chainAt
+    no-edges ok z = record {
+      is-start = (let k : 3 + 3 * n ≡ start n x = omega arith in k ∙ start-is);
+      is-size = sym (ap length none);
+      inside = omega (arith, formed-of s ok .size, three);
+      are-words = sym none;
+    }
+      where
+        none : edgePart s i ≡ []
+        none = rw (follow-end (nextAt (heading s) s) (suc F) (firstAt (heading s) s i) (sym q ∙ z))
+
+    module _ {k : ℕ} (r : k ≡ length (chainAt (heading s) s i)) where
+      part-is : take (2 * k) (drop (start n x) s) ≡ edgePart s i
+      unfolding edgePart heading
+      part-is = rw (p, q, r)
+
+      pub some-edges : boundedRefusal s ≡ 0 → (1 ≤ i) × (i ≤ heading s .copies) → (x ≡ 0 → ⊥)
+          → Placed s (start n x) (2 * k) (partStart s i) (edgePart s i)
+      unfolding targetsAt chainAt
+      some-edges ok l z =
+          let h = heading s in
+          let size : 2 * k ≡ length (edgePart s i)
+          = omega (
+            arith,
+            r,
+            ap length (part-of s ok i (l .0) (l .1)),
+            edgeRecords-length (firstAt h s i) (targetsAt h s i),
+            length-map (chainAt h s i) (targetAt h s),
+          ) in
+          let one = ap length (follow-more (nextAt h s) (suc F) (firstAt h s i) (omega arith) (λ y. z (q ∙ y))) in
+          record {
+            is-start = start-is;
+            is-size = size;
+            inside = omega (
+              arith,
+              size,
+              ap length part-is,
+              length-take (2 * k) (drop (start n x) s),
+              length-drop (start n x) s,
+              one,
+            );
+            are-words = part-is;
+          }

@@ -1,11 +1,12 @@
-// Public calls: the edge words of one copy of a bounded sheet, handed back as a part of the caller's slice, and their answer.
+// Public calls: the edge words of one copy of a bounded sheet, handed back as a part of the caller's slice, their place and their answer.
 // Rests on bounded_check, bounded_words; the promises are equations with formats Rule11.
 ghost use mathlib.Core.Path.{_≡_};
 ghost use Prim.Native.Nat.{_<_, _≤_};
 ghost use lib.ListN.{length};
 ghost use Rattle.formats.specs.Limits.{wordLimit};
-ghost use Rattle.formats.specs.BoundedSheet.{heading, chainAt, edgePart};
+ghost use Rattle.formats.specs.BoundedSheet.{heading, chainAt, partStart, edgePart};
 ghost use Rattle.formats.specs.Rule11.{boundedRefusal, handOut};
+ghost use Rattle.reader.specs.Placed.{Placed};
 use bounded_check::check_bounded;
 use bounded_words::copies;
 use bounded_words::edges;
@@ -48,28 +49,59 @@ fn count_edges(s: &[u16], i: usize) -> usize
     count
 }
 
-// The edge records of copy i, two words each, in a sheet that keeps rule 11.
-fn edge_part(s: &[u16], i: usize) -> &[u16]
+// Where the edge words of a copy stand: the answer, the first word, counted from 0, and the number of words.
+pub struct Place {
+    pub answer: u16,
+    pub start: usize,
+    pub size: usize,
+}
+
+// The place of the edge words of copy i, in a sheet that keeps rule 11.
+fn place_of(s: &[u16], i: usize) -> Place
     requires { ⌜ boundedRefusal (now s) ≡ 0 ⌝ }
     requires { ⌜ (1 ≤ i) × (i ≤ heading (now s) .copies) ⌝ }
-    ensures { λ r. ⌜ now r ≡ edgePart (now (s .entry)) i ⌝ }
+    ensures { λ r. ⌜ Placed (now (s .entry)) (r .start) (r .size) (partStart (now (s .entry)) i) (edgePart (now (s .entry)) i) ⌝ }
+    ensures { λ r. ⌜ r .answer ≡ 0 ⌝ }
 {
     let n = copies(s);
     let first = first_at(s, i);
     if first == 0 {
-        return &s[0..0];
+        return Place {
+            answer: 0,
+            start: HEADER_WORDS + 3 * n,
+            size: 0,
+        };
     }
     let count = count_edges(s, i);
-    let start = HEADER_WORDS + 3 * n + 2 * (first - 1);
-    &s[start..start + 2 * count]
+    Place {
+        answer: 0,
+        start: HEADER_WORDS + 3 * n + 2 * (first - 1),
+        size: 2 * count,
+    }
+}
+
+// The place of the edge words of copy i; empty for the exit and under a refusal.
+pub fn edge_words_place(s: &[u16], i: u16) -> Place
+    ensures { λ r. ⌜ r .answer ≡ handOut (now (s .entry)) i .answer ⌝ }
+    ensures { λ r. ⌜ Placed (now (s .entry)) (r .start) (r .size) (handOut (now (s .entry)) i .start) (handOut (now (s .entry)) i .words) ⌝ }
+{
+    let refusal = edge_words_answer(s, i);
+    if refusal != 0 {
+        return Place {
+            answer: refusal,
+            start: 0,
+            size: 0,
+        };
+    }
+    place_of(s, i as usize)
 }
 
 // The edge records of copy i; empty for the exit and under a refusal.
 pub fn edge_words(s: &[u16], i: u16) -> &[u16]
     ensures { λ r. ⌜ now r ≡ handOut (now (s .entry)) i .words ⌝ }
 {
-    if edge_words_answer(s, i) != 0 {
-        return &s[0..0];
-    }
-    edge_part(s, i as usize)
+    let p = edge_words_place(s, i);
+    let start = p.start;
+    let end = start + p.size;
+    &s[start..end]
 }

@@ -1,0 +1,4 @@
+-- What crosses the exported boundary in another form than the calls have it.
+-- Rests on theory.
+-- a walk as three words: walkIn, walkWords, rowAfter
+pub mod WalkWords

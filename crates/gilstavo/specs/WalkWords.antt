@@ -1,0 +1,39 @@
+-- A walk as three words: place, count, and the end as 0 going, 1 exit, 2 diverted.
+-- Rests on theory Machines and Walks.
+use mathlib.Core.Bool.{true, false}
+use mathlib.Core.List.{List, [], _∷_}
+use Prim.Native.Nat.{ℕ, zero, suc}
+use lib.Dec.{ltb}
+use lib.ListN.{getD}
+use Rattle.theory.specs.Machines.{End, going, exit, diverted}
+use Rattle.theory.specs.Walks.{Walk}
+
+unfoldable pub endIn : ℕ → End
+endIn zero = going
+endIn (suc zero) = exit
+endIn (suc (suc n)) = diverted
+
+unfoldable pub endWord : End → ℕ
+endWord going = 0
+endWord exit = 1
+endWord diverted = 2
+
+-- no place at all: such a walk is out of shape (33) on every sheet
+abbrev pub nowhere : Walk
+nowhere = record { place = 0; count = 0; end = going }
+
+-- the walk that three words stand for; an end above 2 stands for none
+unfoldable pub walkIn : List ℕ → Walk
+walkIn row =
+    elim (ltb 2 (getD row 2 0)) [
+      | true ↦ nowhere
+      | false ↦ record { place = getD row 0 0; count = getD row 1 0; end = endIn (getD row 2 0) }
+    ]
+
+abbrev pub walkWords : Walk → List ℕ
+walkWords w = w .place ∷ w .count ∷ endWord (w .end) ∷ []
+
+-- the words at exit: under a refusal they keep their content
+unfoldable pub rowAfter : ℕ → List ℕ → Walk → List ℕ
+rowAfter zero row after = walkWords after
+rowAfter (suc n) row after = row
