@@ -61,6 +61,22 @@ module _ {A : Type 0} (f : A → Bool) where
           (List·Memᴰ·cases-cons (rw (e, keep) at k))
       go false e k below = let r = below (rw (e, keep) at k) in (List·Memᴰ·tail (r .0), r .1)
 
+  -- tests that agree on a list keep the same, and one that all pass keeps all
+  pub keep-same : (g : A → Bool) (xs : List A) → ((x : A) → List·Memᴰ x xs → f x ≡ g x) → keep f xs ≡ keep g xs
+  unfolding keep
+  keep-same g [] h = refl
+  keep-same g (x ∷ xs) h = go (f x) refl (keep-same g xs (λ y m. h y (List·Memᴰ·tail m)))
+    where
+      go : (b : Bool) → f x ≡ b → keep f xs ≡ keep g xs → keep f (x ∷ xs) ≡ keep g (x ∷ xs)
+      go true e r =
+          let k : g x ≡ true = sym (h x (List·Memᴰ·head refl)) ∙ e in rw (e, k, keep) (ap (λ (l : List A). x ∷ l) r)
+      go false e r = let k : g x ≡ false = sym (h x (List·Memᴰ·head refl)) ∙ e in rw (e, k, keep) r
+
+  pub keep-all : (xs : List A) → ((x : A) → List·Memᴰ x xs → f x ≡ true) → keep f xs ≡ xs
+  unfolding keep
+  keep-all [] h = refl
+  keep-all (x ∷ xs) h = rw (h x (List·Memᴰ·head refl), keep) (ap (λ (l : List A). x ∷ l) (keep-all xs (λ y m. h y (List·Memᴰ·tail m))))
+
 -- the numbers from a on
 pub from-i : (k a x : ℕ) → a ≤ x → x < a + k → List·Memᴰ x (from a k)
 unfolding from

@@ -13,7 +13,7 @@ use Rattle.base.specs.Lists.{each, from}
 use Rattle.base.proofs.Lists.{from-length}
 use Rattle.theory.specs.Completions.{Graph, completes}
 use Rattle.calls.specs.SheetGraph.{boundedSheet}
-use Rattle.calls.specs.Area.{cellOf, areaSize, marks, byteOf, bytes, filled, stands, Table}
+use Rattle.calls.specs.Area.{cellOf, areaSize, marks, byteOf, bytes, filled, isSet, stands, Table}
 use Rattle.calls.specs.Build.{outputAfter}
 
 -- a cell of one line
@@ -112,7 +112,7 @@ module _ (g : Graph) (n b : ℕ) (area : List ℕ) (room : areaSize n b ≤ leng
 
   -- so it stands for the completion costs
   pub filled-table : Table g n b (filled g n b area)
-  unfolding stands
+  unfolding stands isSet
   filled-table = record {
     room = omega (arith, filled-length);
     cells = λ v c p q l. ap (λ (x : ℕ). not (eqb x 0)) (cell-filled v c p q l) ∙ set-byte (completes g v c);

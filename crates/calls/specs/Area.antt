@@ -33,9 +33,12 @@ bytes ms = map byteOf ms
 unfoldable pub filled : Graph → ℕ → ℕ → List ℕ → List ℕ
 filled g n b area = bytes (marks g n b) ++ drop (areaSize n b) area
 
--- WHICH COSTS AN AREA STANDS FOR: whether block v has the cost c
+-- WHICH COSTS AN AREA STANDS FOR: whether the cell at i is set, and whether block v has the cost c
+unfoldable pub isSet : List ℕ → ℕ → Bool
+isSet area i = not (eqb (getD area i 0) 0)
+
 unfoldable pub stands : ℕ → List ℕ → ℕ → ℕ → Bool
-stands b area v c = not (eqb (getD area (cellOf b v c) 0) 0)
+stands b area v c = isSet area (cellOf b v c)
 
 -- an area that stands for the completion costs up to b of the blocks 1 to n
 pub record Table (g : Graph) (n b : ℕ) (area : List ℕ) : Type 0 where

@@ -3,7 +3,7 @@
 ghost use mathlib.Core.Path.{_≡_};
 ghost use Prim.Native.Nat.{_<_};
 ghost use lib.ListN.{length, set};
-ghost use Rattle.calls.specs.Area.{cellOf, byteOf, stands};
+ghost use Rattle.calls.specs.Area.{cellOf, byteOf, isSet, stands};
 ghost use Rattle.cells.specs.Cells.{Within};
 
 // Where block v's cost c stands, with the budget b.
@@ -14,6 +14,14 @@ pub fn place(b: usize, v: usize, c: usize) -> usize
     (v - 1) * (b + 1) + c
 }
 
+// Whether the cell at i is set.
+pub fn is_set_at(area: &[u8], i: usize) -> bool
+    requires { ⌜ i < length (now area) ⌝ }
+    ensures { λ r. ⌜ r ≡ isSet (now (area .entry)) i ⌝ }
+{
+    area[i] != 0
+}
+
 // Whether the area stands for v's cost c.
 pub fn is_set(area: &[u8], b: usize, v: usize, c: usize) -> bool
     requires { ⌜ Within b v c ⌝ }
@@ -21,7 +29,7 @@ pub fn is_set(area: &[u8], b: usize, v: usize, c: usize) -> bool
     ensures { λ r. ⌜ r ≡ stands b (now (area .entry)) v c ⌝ }
 {
     let i = place(b, v, c);
-    area[i] != 0
+    is_set_at(area, i)
 }
 
 // Sets or clears v's cost c.

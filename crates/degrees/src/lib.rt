@@ -6,8 +6,12 @@ ghost use lib.ListN.{length, getD};
 ghost use Rattle.formats.specs.GraphSheet.{header, sheetRefusal};
 ghost use Rattle.tables.specs.Tables.{Degrees};
 use graph_check::successor_count;
+use graph_words::MOST_BLOCKS;
 use graph_words::blocks;
 use graph_words::word_at;
+
+// An entry for each block, by its number.
+pub const DEGREES: usize = MOST_BLOCKS + 1;
 
 // Fills the entries of all blocks.
 pub fn fill_degrees(s: &[u16], degrees: &mut [u16])

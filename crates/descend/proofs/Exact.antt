@@ -1,15 +1,15 @@
 -- A descent from clear marks marks the copies of the sheet, and no other.
--- Rests on base Truth and Copies, theory Reach, tables Tables, specs Marks, Copies.
+-- Rests on base Truth and Copies, theory Reach, tables Tables, specs Marks, Copies, Marks.
 use mathlib.Core.Path.{_≡_, sym, ap, subst, _∙_}
 use mathlib.Core.Logic.{⊎-elim}
-use mathlib.Core.Bool.{true, false, not}
-use mathlib.Core.List.{List, List·Memᴰ·eq-of-singleton}
+use mathlib.Core.Bool.{true, false}
+use mathlib.Core.List.{List, List·Memᴰ, List·Memᴰ·eq-of-singleton}
 use mathlib.Core.Option.{some}
 use Prim.Native.Nat.{ℕ, _≤_}
-use lib.Dec.{eqb}
 use lib.ListN.{length}
-use Rattle.base.specs.Lists.{isNone}
+use Rattle.base.specs.Lists.{isNone, keep}
 use Rattle.base.specs.Copy.{Copy, copyOf}
+use Rattle.base.proofs.Lists.{keep-all}
 use Rattle.base.proofs.Truth.{not-both, same-test}
 use Rattle.base.proofs.Copies.{isIn-mem, mem-isIn}
 use Rattle.theory.specs.Completions.{lowOf}
@@ -19,19 +19,16 @@ use Rattle.theory.proofs.Reach.{target-mem, sound, in-reached, entry-of}
 use Rattle.formats.specs.Limits.{mostBudget}
 use Rattle.formats.specs.GraphSheet.{header, sheetRefusal}
 use Rattle.calls.specs.SheetGraph.{graph}
-use Rattle.calls.specs.Area.{cellOf, areaSize}
-use Rattle.tables.specs.Tables.{Lows, marked, sheetCopiesAt, Exactly}
+use Rattle.calls.specs.Area.{areaSize}
+use Rattle.tables.specs.Tables.{Lows, marked, sheetCopiesAt, Exactly, Degrees}
 use Rattle.descend.specs.Marks.{Clear, Met, Ready, Grown}
 use Rattle.descend.proofs.Copies.{setting}
-
-clear-marks : (m : List ℕ) (b v l : ℕ) → Clear m → marked b m v l ≡ true → ⊥
-unfolding Clear marked
-clear-marks m b v l c h = not-both h (ap (λ (x : ℕ). not (eqb x 0)) (c (cellOf b v l)))
+use Rattle.descend.proofs.Marks.{unmarked}
 
 -- at the start nothing is marked: from what `reach` requires, as it stands there
-pub ready-clear : {w : List ℕ} {b : ℕ} {lows m : List ℕ}
+pub ready-clear : {w : List ℕ} {b : ℕ} {lows degrees m : List ℕ}
     → (sheetRefusal w ≡ 0) × (((b ≤ mostBudget) × (isNone (lowOf (graph w) 1 b) ≡ false))
-    × (Lows (graph w) (header w .blocks) b lows × ((areaSize (header w .blocks) b ≤ length m) × Clear m)))
+    × (Lows (graph w) (header w .blocks) b lows × ((areaSize (header w .blocks) b ≤ length m) × (Clear m × Degrees w degrees))))
     → Ready w b lows m
 ready-clear {b = b} {m = m} p = record {
   ok = p .0;
@@ -39,7 +36,7 @@ ready-clear {b = b} {m = m} p = record {
   opens = p .1 .0 .1;
   table = p .1 .1 .0;
   room = p .1 .1 .1 .0;
-  only = record { is-copy = λ v l x y h. absurd (clear-marks m b v l (p .1 .1 .1 .1) h) };
+  only = record { is-copy = λ v l x y h. absurd (not-both h (unmarked m b v l (p .1 .1 .1 .1 .0))) };
 }
 
 module _ {w : List ℕ} {b : ℕ} {lows m m′ : List ℕ} (R : Ready w b lows m′) (clear : Clear m) (g : Grown w b m m′)
@@ -54,8 +51,11 @@ module _ {w : List ℕ} {b : ℕ} {lows m m′ : List ℕ} (R : Ready w b lows m
   reached (along {c = c} {d = d} r i) =
       let k = sound (setting R) r in
       let t = target-mem (graph w) c d i in
-      ⊎-elim (λ h. absurd (clear-marks m b (c .block) (c .low) clear h)) (λ h. h .each-met (d .block) (t .0) .is-met (d .low) (t .1))
+      ⊎-elim (λ h. absurd (not-both h (unmarked m b (c .block) (c .low) clear))) (λ h. h .each-met (d .block) (t .0) .is-met (d .low) (t .1))
       (g .closed (c .block) (c .low) (k .place .0) (k .small) (reached r))
+
+  copies-marked : (c : Copy) → List·Memᴰ c (sheetCopiesAt w b) → marked b m′ (c .block) (c .low) ≡ true
+  copies-marked c i = reached (in-reached (setting R) c i .1)
 
   -- so the copies are marked, and no other
   pub exactly : Exactly w b m′
@@ -63,5 +63,8 @@ module _ {w : List ℕ} {b : ℕ} {lows m m′ : List ℕ} (R : Ready w b lows m
     room = R .room;
     cells = λ v l p q h.
         same-test _ _ (λ x. mem-isIn (copyOf v l) (sheetCopiesAt w b) (R .only .is-copy v l p h x))
-        (λ x. reached (in-reached (setting R) (copyOf v l) (isIn-mem (copyOf v l) (sheetCopiesAt w b) x) .1));
+        (λ x. copies-marked (copyOf v l) (isIn-mem (copyOf v l) (sheetCopiesAt w b) x));
   }
+
+  pub all-kept : keep (λ c. marked b m′ (c .block) (c .low)) (sheetCopiesAt w b) ≡ sheetCopiesAt w b
+  all-kept = keep-all _ (sheetCopiesAt w b) copies-marked

@@ -2,7 +2,7 @@
 -- Rests on calls SheetLaws, cells Cells, specs Marks, Copies.
 use mathlib.Core.Path.{_≡_, sym, ap, subst, _∙_}
 use mathlib.Core.Logic.{_⊎_, inl, inr, ⊎-elim}
-use mathlib.Core.Bool.{true, not}
+use mathlib.Core.Bool.{true, false, not}
 use mathlib.Core.List.{List, [], List·Memᴰ, List·Memᴰ·not-nil}
 use mathlib.Core.Option.{Option, some, none, Option·none-ne-some, Option·some-injective}
 use Prim.Native.Nat.{ℕ, _-_, _≤_}
@@ -11,7 +11,7 @@ use native.Mathlib.Decide.{ℕ-discrete}
 use lib.Dec.{eqb}
 use lib.ListN.{length, getD, set, length-set}
 use lib.Seq.{getD-set-same, getD-set-other}
-use Rattle.base.specs.Copy.{copyOf}
+use Rattle.base.specs.Copy.{Copy, copyOf}
 use Rattle.formats.specs.GraphSheet.{sheetRefusal}
 use Rattle.formats.proofs.Accepted.{accepted}
 use Rattle.calls.specs.SheetGraph.{graph}
@@ -19,8 +19,13 @@ use Rattle.calls.specs.Area.{cellOf}
 use Rattle.calls.proofs.SheetLaws.{well-formed}
 use Rattle.cells.proofs.Cells.{one-cell}
 use Rattle.tables.specs.Tables.{marked, sheetCopiesAt}
-use Rattle.descend.specs.Marks.{Met, AllMet, Ready, Grown}
+use Rattle.descend.specs.Marks.{Clear, Met, AllMet, Ready, Grown}
 use Rattle.descend.proofs.Copies.{copy-fits}
+
+-- clear marks are none
+pub unmarked : (m : List ℕ) (b v l : ℕ) → Clear m → marked b m v l ≡ false
+unfolding Clear marked
+unmarked m b v l c = ap (λ (x : ℕ). not (eqb x 0)) (c (cellOf b v l))
 
 -- what is met
 pub met-none : {b v : ℕ} {m : List ℕ} {o : Option ℕ} → o ≡ none → Met b m v o
@@ -30,6 +35,10 @@ pub met-some : {b v l : ℕ} {m : List ℕ} {o : Option ℕ} → o ≡ some l �
 met-some {b} {v} {l} {m} e h = record {
   is-met = λ a z. subst (λ (y : ℕ). marked b m v y ≡ true) (Option·some-injective l a (sym e ∙ z)) h;
 }
+
+-- the exit has no successors
+pub exit-ends : (w : List ℕ) → sheetRefusal w ≡ 0 → (v : ℕ) → v ≡ 2 → graph w .next v ≡ []
+exit-ends w ok v e = ap (graph w .next) e ∙ well-formed w (accepted w ok) .closed
 
 module _ {w : List ℕ} {b : ℕ} where
   pub met-grows : {m m′ : List ℕ} {v : ℕ} {o : Option ℕ} → Grown w b m m′ → Met b m v o → Met b m′ v o
@@ -51,13 +60,12 @@ module _ {w : List ℕ} {b : ℕ} where
   -- the exit has no edges
   pub exit-met : (m : List ℕ) (v r : ℕ) → sheetRefusal w ≡ 0 → v ≡ 2 → AllMet w b m v r
   exit-met m v r ok e =
-      let none : graph w .next v ≡ [] = ap (graph w .next) e ∙ well-formed w (accepted w ok) .closed in
-      record { each-met = λ t i. absurd (List·Memᴰ·not-nil {a = t} (subst (List·Memᴰ t) none i)) }
+      record { each-met = λ t i. absurd (List·Memᴰ·not-nil {a = t} (subst (List·Memᴰ t) (exit-ends w ok v e) i)) }
 
 -- A COPY IS MARKED
 module _ {w : List ℕ} {b : ℕ} {lows m m₁ : List ℕ} {v l : ℕ} (R : Ready w b lows m) (c : List·Memᴰ (copyOf v l) (sheetCopiesAt w b))
     (e : m₁ ≡ set m (cellOf b v l) 1) where
-  now-marked : marked b m₁ v l ≡ true
+  pub now-marked : marked b m₁ v l ≡ true
   unfolding marked
   now-marked =
       ap (λ (x : List ℕ). not (eqb (getD x (cellOf b v l) 0) 0)) e
@@ -77,15 +85,25 @@ module _ {w : List ℕ} {b : ℕ} {lows m m₁ : List ℕ} {v l : ℕ} (R : Read
       go (yes x) = ap (λ (i : ℕ). not (eqb (getD m₁ i 0) 0)) x ∙ now-marked
       go (no n) = other u k n ∙ h
 
+  one-copy : (u k : ℕ) → 1 ≤ u → k ≤ b → cellOf b u k ≡ cellOf b v l → copyOf u k ≡ copyOf v l
+  one-copy u k p q x =
+      let f = copy-fits R c in
+      let z = one-cell b u k v l p (f .place .0) q (f .small) x in
+      λ i. copyOf (z .0 i) (z .1 i)
+
+  -- no other copy's mark is touched
+  pub others : (x : Copy) → List·Memᴰ x (sheetCopiesAt w b) → (x ≡ copyOf v l → ⊥)
+      → marked b m (x .block) (x .low) ≡ marked b m₁ (x .block) (x .low)
+  others x i n =
+      let f = copy-fits R {v = x .block} {l = x .low} i in
+      sym (other (x .block) (x .low) (λ z. n (one-copy (x .block) (x .low) (f .place .0) (f .small) z)))
+
   -- a mark is this one, or was there before
   either : (u k : ℕ) → 1 ≤ u → k ≤ b → marked b m₁ u k ≡ true → (copyOf u k ≡ copyOf v l) ⊎ (marked b m u k ≡ true)
   either u k p q h = go (ℕ-discrete (cellOf b u k) (cellOf b v l))
     where
       go : Dec (cellOf b u k ≡ cellOf b v l) → (copyOf u k ≡ copyOf v l) ⊎ (marked b m u k ≡ true)
-      go (yes x) =
-          let f = copy-fits R c in
-          let z = one-cell b u k v l p (f .place .0) q (f .small) x in
-          inl (λ i. copyOf (z .0 i) (z .1 i))
+      go (yes x) = inl (one-copy u k p q x)
       go (no n) = inr (sym (other u k n) ∙ h)
 
   pub ready-on : Ready w b lows m₁
@@ -113,7 +131,8 @@ module _ {w : List ℕ} {b : ℕ} {lows m m₁ : List ℕ} {v l : ℕ} (R : Read
           inr (subst (λ y. AllMet w b m′ (y .block) (y .low - graph w .cost (y .block))) (sym x) (subst (AllMet w b m′ v) q n))
       own u k (inr x) = inl x
 
-  -- what a visit gives, from what its chain gives
-  pub visited : {m′ : List ℕ} {r : ℕ} {o : Option ℕ} → o ≡ some l → r ≡ l - graph w .cost v
-      → Ready w b lows m′ × (Grown w b m₁ m′ × AllMet w b m′ v r) → Ready w b lows m′ × (Grown w b m m′ × Met b m′ v o)
-  visited o q y = (y .0, (handed-on (y .1 .0) q (y .1 .1), met-some o (y .1 .0 .grows v l now-marked)))
+  -- what a visit gives, from what its chain gives, each where the descent did not stop
+  pub visited : {m′ : List ℕ} {r : ℕ} {o : Option ℕ} {P : Type 0} → o ≡ some l → r ≡ l - graph w .cost v
+      → (P → Ready w b lows m′) × ((P → Grown w b m₁ m′) × (P → AllMet w b m′ v r))
+      → (P → Ready w b lows m′) × ((P → Grown w b m m′) × (P → Met b m′ v o))
+  visited o q y = (y .0, (λ p. handed-on (y .1 .0 p) q (y .1 .1 p), λ p. met-some o (y .1 .0 p .grows v l now-marked)))

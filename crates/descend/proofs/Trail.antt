@@ -1,4 +1,4 @@
--- The chain as the descent follows it: a successor is still to come, or its copy is marked.
+-- The chain as the descent follows it: a successor is still to come, or its copy is marked; and the edges that are left.
 -- Rests on chains Rest, specs Marks, Copies, Marks.
 use mathlib.Core.Path.{_≡_, refl, sym, ap, subst, _∙_}
 use mathlib.Core.Logic.{_⊎_, inl, inr, ⊎-elim}
@@ -15,30 +15,32 @@ use Rattle.tables.specs.Tables.{optionOf}
 use Rattle.chains.specs.Rest.{edgesFrom, targetsFrom, Rest}
 use Rattle.formats.proofs.Chains.{follow-end, follow-out}
 use Rattle.chains.proofs.Rest.{rest-start, rest-on, targets-start, targets-on, edge-fits, is-successor}
-use Rattle.descend.specs.Marks.{Due, Met, AllDue, AllMet, Ready, Grown}
+use Rattle.descend.specs.Marks.{edgesLeft, Due, Met, AllDue, AllMet, Ready, Grown}
 use Rattle.descend.proofs.Copies.{look-cell, look-up, look-small, successor-fits}
 use Rattle.descend.proofs.Marks.{met-grows, grown-same, grown-then}
 
--- the chain of v with r cycles left, from the marks m₀ on: at the edge e, with k turns to go
-pub record Trail (w : List ℕ) (b : ℕ) (lows m₀ m : List ℕ) (v r k e : ℕ) : Type 0 where
+-- the chain of v with r cycles left, from the marks m₀ on: at the edge e, with k turns to go, and left one more than the edges that may come
+pub record Trail (w : List ℕ) (b : ℕ) (lows m₀ m : List ℕ) (v r k e left : ℕ) : Type 0 where
   pub size : length m ≡ length m₀
   pub ready : Ready w b lows m
   pub grown : Grown w b m₀ m
   pub rest : Rest w v k e
+  pub count : left ≡ edgesLeft w b m
   pub passed : (t : ℕ) → List·Memᴰ t (graph w .next v) → List·Memᴰ t (targetsFrom w k e) ⊎ Met b m t (lowOf (graph w) t r)
 
 module _ {w : List ℕ} {b : ℕ} {lows : List ℕ} {v r : ℕ} (p : (1 ≤ v) × (v ≤ header w .blocks) × (r ≤ b)) where
-  pub trail-start : {m : List ℕ} {k e : ℕ} → Ready w b lows m → k ≡ suc (header w .edges) → e ≡ firstWord (header w) w v
-      → Trail w b lows m m v r k e
-  trail-start {m} {k} {e} R i j = record {
+  pub trail-start : {m : List ℕ} {k e left : ℕ} → Ready w b lows m → k ≡ suc (header w .edges) → e ≡ firstWord (header w) w v
+      → left ≡ edgesLeft w b m → Trail w b lows m m v r k e left
+  trail-start {m} {k} {e} R i j n = record {
     size = refl;
     ready = R;
     grown = grown-same m;
     rest = rest-start w (R .ok) v (p .0) (p .1) k e i j;
+    count = n;
     passed = λ t n. inl (subst (List·Memᴰ t) (targets-start w (R .ok) v (p .0) (p .1) k e i j) n);
   }
 
-  module _ {m₀ m : List ℕ} {k e : ℕ} (T : Trail w b lows m₀ m v r k e) where
+  module _ {m₀ m : List ℕ} {k e left : ℕ} (T : Trail w b lows m₀ m v r k e left) where
     over : edgesFrom w k e ≡ [] → AllMet w b m v r
     over z =
         let none : targetsFrom w k e ≡ [] = ap (map (targetWord (header w) w)) z in
@@ -77,22 +79,24 @@ module _ {w : List ℕ} {b : ℕ} {lows : List ℕ} {v r : ℕ} (p : (1 ≤ v) �
           pub number-due : AllDue w b v r → Due w b t (optionOf x)
           number-due d = subst (Due w b t) (sym (look-up (T .ready) block (p .2) j)) (d .each-due t successor)
 
-          -- from what the visit gives
-          pub trail-on : {m′ : List ℕ} {y : ℕ} → length m′ ≡ length m → Ready w b lows m′ × (Grown w b m m′ × Met b m′ t (optionOf x))
-              → y ≡ nextWord (header w) w e → Trail w b lows m₀ m′ v r (k - 1) y
-          trail-on {m′} {y} s g q = record {
-            size = s ∙ T .size;
-            ready = g .0;
-            grown = grown-then (T .grown) (g .1 .0);
-            rest = rest-on w (T .ready .ok) v (p .0) (p .1) k e (T .rest) l n y q;
-            passed = λ u c. ⊎-elim (ahead u) (λ d. inr (met-grows (g .1 .0) d)) (T .passed u c);
-          }
-            where
-              met : Met b m′ t (lowOf (graph w) t r)
-              met = subst (Met b m′ t) (look-up (T .ready) block (p .2) j) (g .1 .1)
+          -- from what the visit gives, that did not stop
+          module _ {m′ : List ℕ} {rest : ℕ} (g : (rest ≡ edgesLeft w b m′)
+              × ((0 < rest → Ready w b lows m′) × ((0 < rest → Grown w b m m′) × (0 < rest → Met b m′ t (optionOf x))))) (o : 0 < rest) where
+            met : Met b m′ t (lowOf (graph w) t r)
+            met = subst (Met b m′ t) (look-up (T .ready) block (p .2) j) (g .1 .1 .1 o)
 
-              ahead : (u : ℕ) → List·Memᴰ u (targetsFrom w k e)
-                  → List·Memᴰ u (targetsFrom w (k - 1) y) ⊎ Met b m′ u (lowOf (graph w) u r)
-              ahead u d =
-                  ⊎-elim (λ o. inr (subst (λ (z : ℕ). Met b m′ z (lowOf (graph w) z r)) (sym o) met)) (λ o. inl o)
-                  (List·Memᴰ·cases-cons (subst (List·Memᴰ u) (targets-on w (T .ready .ok) v (p .0) (p .1) k e (T .rest) l n t y i q) d))
+            pub trail-on : {y : ℕ} → length m′ ≡ length m → y ≡ nextWord (header w) w e → Trail w b lows m₀ m′ v r (k - 1) y rest
+            trail-on {y} s q = record {
+              size = s ∙ T .size;
+              ready = g .1 .0 o;
+              grown = grown-then (T .grown) (g .1 .1 .0 o);
+              rest = rest-on w (T .ready .ok) v (p .0) (p .1) k e (T .rest) l n y q;
+              count = g .0;
+              passed = λ u c. ⊎-elim (ahead u) (λ d. inr (met-grows (g .1 .1 .0 o) d)) (T .passed u c);
+            }
+              where
+                ahead : (u : ℕ) → List·Memᴰ u (targetsFrom w k e)
+                    → List·Memᴰ u (targetsFrom w (k - 1) y) ⊎ Met b m′ u (lowOf (graph w) u r)
+                ahead u d =
+                    ⊎-elim (λ a. inr (subst (λ (z : ℕ). Met b m′ z (lowOf (graph w) z r)) (sym a) met)) (λ a. inl a)
+                    (List·Memᴰ·cases-cons (subst (List·Memᴰ u) (targets-on w (T .ready .ok) v (p .0) (p .1) k e (T .rest) l n t y i q) d))

@@ -1,3 +1,3 @@
 -- What the contracts below `reach` cite.
--- Rests on theory Completions, formats GraphSheet, calls SheetGraph and Area, tables Tables.
+-- Rests on theory Completions, formats GraphSheet and BoundedSheet, calls SheetGraph and Area, tables Tables and Rows.
 pub mod Marks

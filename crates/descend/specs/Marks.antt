@@ -1,24 +1,34 @@
 -- The marks of a descent over the copies of an accepted sheet within a budget.
--- Rests on base Lists and Copy, theory Completions, formats GraphSheet, calls SheetGraph and Area, tables Tables.
+-- Rests on base Lists and Copy, theory Completions, formats GraphSheet and BoundedSheet, calls SheetGraph and Area, tables Tables and Rows.
 use mathlib.Core.Path.{_≡_}
 use mathlib.Core.Logic.{_⊎_}
 use mathlib.Core.Bool.{true, false}
-use mathlib.Core.List.{List, List·Memᴰ}
+use mathlib.Core.List.{List, map, List·Memᴰ}
 use mathlib.Core.Option.{Option, some}
-use Prim.Native.Nat.{ℕ, _-_, _≤_}
+use Prim.Native.Nat.{ℕ, suc, _-_, _≤_}
 use lib.ListN.{length, getD}
-use Rattle.base.specs.Lists.{isNone}
+use Rattle.base.specs.Lists.{isNone, keep}
 use Rattle.base.specs.Copy.{copyOf}
 use Rattle.theory.specs.Completions.{lowOf}
-use Rattle.formats.specs.Limits.{mostBudget}
+use Rattle.formats.specs.Limits.{mostBudget, mostBoundedEdges}
 use Rattle.formats.specs.GraphSheet.{header, sheetRefusal}
+use Rattle.formats.specs.BoundedSheet.{edgeCount}
 use Rattle.calls.specs.SheetGraph.{graph}
 use Rattle.calls.specs.Area.{areaSize}
 use Rattle.tables.specs.Tables.{Lows, marked, sheetCopiesAt}
+use Rattle.tables.specs.Rows.{sheetRowAt}
 
 -- no mark is set
 unfoldable pub Clear : List ℕ → Type 0
 Clear marks = (i : ℕ) → getD marks i 0 ≡ 0
+
+-- the edges of the sheet's copies that are marked
+unfoldable pub edgesMarked : List ℕ → ℕ → List ℕ → ℕ
+edgesMarked w b marks = edgeCount (map (sheetRowAt w b) (keep (λ c. marked b marks (c .block) (c .low)) (sheetCopiesAt w b)))
+
+-- one more than the edges that may still come, 0 once there are too many
+unfoldable pub edgesLeft : List ℕ → ℕ → List ℕ → ℕ
+edgesLeft w b marks = suc mostBoundedEdges - edgesMarked w b marks
 
 -- the copy of v whose low is that of an option, if there is one, is marked
 pub record Met (b : ℕ) (marks : List ℕ) (v : ℕ) (o : Option ℕ) : Type 0 where

@@ -1,11 +1,11 @@
 -- Numbering the marked cells in order: each entry is the number of the copy that serves its cycles.
--- Rests on base Lists and Copies, theory Completions and Order, cells Cells, Rest, specs Entries.
+-- Rests on base Lists and Copies, theory Order, cells Cells, Places, Rest, Entries.
 use mathlib.Core.Path.{_≡_, refl, sym, ap, ap₂, subst, _∙_}
 use mathlib.Core.Bool.{Bool, true, false}
 use mathlib.Core.List.{List, [], _∷_}
-use mathlib.Core.Option.{Option, some, Option·map}
-use Prim.Native.Nat.{ℕ, zero, suc, _+_, _-_, _≤_, _<_}
-use native.Mathlib.Decide.{ℕ-discrete}
+use mathlib.Core.Option.{some}
+use Prim.Native.Nat.{ℕ, zero, suc, _+_, _≤_, _<_, _%_}
+use native.Mathlib.Decide.{ℕ-discrete, decLt}
 use native.Mathlib.Numerals.{add-one}
 use native.Mathlib.Omega.{arith}
 use lib.ListN.{length, getD, set, drop, length-drop, length-set}
@@ -15,18 +15,19 @@ use Rattle.base.specs.Copy.{Copy, copyOf, same, isIn, numberFrom}
 use Rattle.base.proofs.Truth.{not-both, or-false}
 use Rattle.base.proofs.Lists.{chosen-mem, one-place}
 use Rattle.base.proofs.Copies.{rising-distinct, number-chosen}
-use Rattle.theory.specs.Completions.{Graph, completes, largest, lowOf}
-use Rattle.theory.specs.Copies.{copyFor, startCopies, targetNumber}
-use Rattle.theory.proofs.Completions.{largest-self}
+use Rattle.theory.specs.Completions.{completes}
+use Rattle.theory.specs.Copies.{startCopies}
 use Rattle.theory.proofs.Order.{copies-rise}
+use Rattle.formats.specs.Limits.{wordLimit}
 use Rattle.formats.specs.GraphSheet.{header}
 use Rattle.calls.specs.SheetGraph.{graph}
-use Rattle.calls.specs.Area.{cellOf, areaSize, byteOf, stands, Table}
+use Rattle.calls.specs.Area.{cellOf, areaSize, byteOf, isSet, stands, Table}
 use Rattle.cells.proofs.Cells.{cell-inside, one-cell}
 use Rattle.tables.specs.Tables.{marked, sheetCopiesAt, Exactly, Numbers}
-use Rattle.number.specs.Scan.{IsCell}
+use Rattle.number.specs.Scan.{IsCell, markedAt}
 use Rattle.number.specs.Entries.{entryBefore, nextEntry}
-use Rattle.number.proofs.Places.{cell-block}
+use Rattle.number.proofs.Places.{cell-block, first-cell, next-low, next-block, low-same, low-last}
+use Rattle.number.proofs.Entries.{entry, before, entry-yes, entry-no}
 use Rattle.number.proofs.Rest.{rest, rest-start, rest-end, rest-yes, rest-no, Scan}
 
 -- a list that goes on with x behind its first k
@@ -49,56 +50,6 @@ pub byte-small : (c : Bool) → byteOf c ≤ 1
 unfolding byteOf
 byte-small true = omega arith
 byte-small false = omega arith
-
--- ENTRIES: the number of the copy of v that serves r cycles, by that of one cycle less
-module _ (g : Graph) (cs : List Copy) (v : ℕ) where
-  abbrev entry : ℕ → ℕ
-  entry r = targetNumber cs (copyFor g r v)
-
-  before : ℕ → ℕ
-  before zero = 0
-  before (suc r) = entry r
-
-  entry-yes : (r : ℕ) → completes g v r ≡ true → entry r ≡ numberFrom 1 (copyOf v r) cs
-  unfolding copyFor lowOf targetNumber
-  entry-yes r e = ap (λ (o : Option ℕ). targetNumber cs (Option·map (copyOf v) o)) (largest-self (completes g v) r e)
-
-  entry-no : (r : ℕ) → completes g v r ≡ false → before r ≡ entry r
-  unfolding before copyFor lowOf targetNumber largest
-  entry-no zero e = rw (e, largest)
-  entry-no (suc r) e = rw (e, largest)
-
--- as the code reads it
-module _ (b : ℕ) (a : List ℕ) (v r : ℕ) where
-  pub at-zero : r ≡ 0 → 0 ≡ entryBefore b a v r
-  unfolding entryBefore
-  at-zero e = rw e
-
-  pub one-less : (r ≡ 0 → ⊥) → getD a (cellOf b v (r - 1)) 0 ≡ entryBefore b a v r
-  unfolding entryBefore
-  one-less n = go r n
-    where
-      go : (r : ℕ) → (r ≡ 0 → ⊥) → getD a (cellOf b v (r - 1)) 0 ≡ entryBefore b a v r
-      go zero n = absurd (n refl)
-      go (suc r) n = let e : suc r - 1 ≡ r = omega arith in rw e
-
--- the ways to the next entry
-module _ {cost : Bool} (reached : Bool) (n x : ℕ) where
-  pub next-no : cost ≡ false → x ≡ nextEntry cost reached n x
-  unfolding nextEntry
-  next-no e = rw e
-
-  pub next-yes : cost ≡ true → reached ≡ true → n ≡ nextEntry cost reached n x
-  unfolding nextEntry
-  next-yes e f = rw (e, f)
-
-  pub next-none : cost ≡ true → reached ≡ false → 0 ≡ nextEntry cost reached n x
-  unfolding nextEntry
-  next-none e f = rw (e, f)
-
-pub cell-less : (b v r : ℕ) → cellOf b v (r - 1) ≤ cellOf b v r
-unfolding cellOf
-cell-less b v r = omega arith
 
 module _ (w : List ℕ) (b : ℕ) where
   abbrev N : ℕ
@@ -136,15 +87,6 @@ module _ (w : List ℕ) (b : ℕ) where
     inside : v ≤ N
     inside = cell-block N b i v r C h
 
-    -- the entry before stands already
-    before-is : entryBefore b a v r ≡ before (graph w) cs v r
-    unfolding entryBefore before cellOf
-    before-is = go r (C .low) (C .place)
-      where
-        go : (r : ℕ) → r ≤ b → i ≡ cellOf b v r → entryBefore b a v r ≡ before (graph w) cs v r
-        go zero l e = refl
-        go (suc r) l e = S .done v r (C .block) inside (omega arith) (omega arith)
-
     -- the copies behind this cell, and this copy's number
     record Counted (reached : Bool) (n : ℕ) : Type 0 where
       few : n ≤ length cs
@@ -172,61 +114,99 @@ module _ (w : List ℕ) (b : ℕ) where
           none = λ _. sym (no-number 1 (copyOf v r) cs t);
         })
 
-    -- the new entry
-    entered : (cost reached : Bool) (n : ℕ) → completes (graph w) v r ≡ cost → Counted reached n
-        → nextEntry cost reached n (entryBefore b a v r) ≡ entry (graph w) cs v r
+    -- the new entry, where p is the entry before
+    entered : (cost reached : Bool) (n p : ℕ) → completes (graph w) v r ≡ cost → Counted reached n → p ≡ before (graph w) cs v r
+        → nextEntry cost reached n p ≡ entry (graph w) cs v r
     unfolding nextEntry
-    entered false reached n t K = before-is ∙ entry-no (graph w) cs v r t
-    entered true true n t K = K .number refl ∙ sym (entry-yes (graph w) cs v r t)
-    entered true false n t K = K .none refl ∙ sym (entry-yes (graph w) cs v r t)
+    entered false reached n p t K e = e ∙ entry-no (graph w) cs v r t
+    entered true true n p t K e = K .number refl ∙ sym (entry-yes (graph w) cs v r t)
+    entered true false n p t K e = K .none refl ∙ sym (entry-yes (graph w) cs v r t)
 
     module _ (area m : List ℕ) (t : Table (graph w) N b area) (x : Exactly w b m) (room : areaSize N b ≤ length a) where
-      pub state-on : (reached : Bool) (n e : ℕ) (a′ : List ℕ) → reached ≡ marked b m v r → n ≡ count + byteOf reached
-          → e ≡ nextEntry (stands b area v r) reached n (entryBefore b a v r) → a′ ≡ set a (cellOf b v r) e → State a′ n (i + 1)
-      unfolding byteOf
-      state-on reached n e a′ p q f g =
-          let K = counted reached n (sym (x .cells v r (C .block) inside (C .low)) ∙ sym p) q in
+      pub state-on : (reached : Bool) (n p e : ℕ) (a′ : List ℕ) → reached ≡ markedAt m i → n ≡ count + byteOf reached
+          → p ≡ before (graph w) cs v r → e ≡ nextEntry (isSet area i) reached n p → a′ ≡ set a i e
+          → State a′ n (i + 1) × (e ≡ entry (graph w) cs v r)
+      unfolding byteOf markedAt marked stands
+      state-on reached n p e a′ f q c k g =
+          let K = counted reached n (sym (x .cells v r (C .block) inside (C .low)) ∙ sym (f ∙ ap (markedAt m) (C .place))) q in
           let y : e ≡ entry (graph w) cs v r
-          = f ∙ entered (stands b area v r) reached n (sym (t .cells v r (C .block) inside (C .low))) K in
-          subst (State a′ n) (sym (add-one i))
-          (record {
-            small = omega (arith, S .small, byte-small reached);
-            few = K .few;
-            ahead = K .ahead;
-            done = λ u d p q l k. settled u d p q l k (ℕ-discrete (cellOf b u d) (cellOf b v r)) y;
-          })
+          = k ∙ entered (isSet area i) reached n p (sym (t .cells v r (C .block) inside (C .low)) ∙ sym (ap (isSet area) (C .place))) K c in (
+            subst (State a′ n) (sym (add-one i))
+                (record {
+                  small = omega (arith, S .small, byte-small reached);
+                  few = K .few;
+                  ahead = K .ahead;
+                  done = λ u d p q l k. settled u d p q l k (ℕ-discrete (cellOf b u d) i) y;
+                }),
+            y,
+          )
         where
-          settled : (u d : ℕ) → 1 ≤ u → u ≤ N → d ≤ b → cellOf b u d < suc i → Dec (cellOf b u d ≡ cellOf b v r)
+          settled : (u d : ℕ) → 1 ≤ u → u ≤ N → d ≤ b → cellOf b u d < suc i → Dec (cellOf b u d ≡ i)
               → e ≡ entry (graph w) cs v r → getD a′ (cellOf b u d) 0 ≡ entry (graph w) cs u d
           settled u d p q l k (yes z) y =
-              let o = one-cell b u d v r p (C .block) l (C .low) z in
-              ap₂ (λ (a : List ℕ) (j : ℕ). getD a j 0) g z ∙ getD-set-same a (cellOf b v r) e 0 (omega (arith, C .place)) ∙ y
+              let o = one-cell b u d v r p (C .block) l (C .low) (z ∙ C .place) in
+              ap₂ (λ (a : List ℕ) (j : ℕ). getD a j 0) g z ∙ getD-set-same a i e 0 (omega arith) ∙ y
               ∙ ap₂ (λ (u d : ℕ). entry (graph w) cs u d) (sym (o .0)) (sym (o .1))
           settled u d p q l k (no z) y =
-              ap (λ (a : List ℕ). getD a (cellOf b u d) 0) g ∙ getD-set-other a (cellOf b v r) (cellOf b u d) e 0 z
-              ∙ S .done u d p q l (omega (arith, C .place))
+              ap (λ (a : List ℕ). getD a (cellOf b u d) 0) g ∙ getD-set-other a i (cellOf b u d) e 0 z
+              ∙ S .done u d p q l (omega arith)
+
+-- the cell that the code is at, with p carried from the cell before; the block v stands in no code
+pub record Here (w : List ℕ) (b p r i : ℕ) : Type 0 where
+  pub v : ℕ
+  pub cell : IsCell b i v r
+  pub carried : p ≡ before (graph w) (sheetCopiesAt w b) v r
+
+pub here-start : (w : List ℕ) (b : ℕ) → Here w b 0 0 0
+unfolding before
+here-start w b = record { v = 1; cell = first-cell b; carried = refl }
+
+pub here-on : {w : List ℕ} {b p r i : ℕ} (H : Here w b p r i) {e l q : ℕ} → e ≡ entry (graph w) (sheetCopiesAt w b) (H .v) r
+    → l ≡ (r + 1) % (b + 1) → q ≡ entryBefore l e → Here w b q l (i + 1)
+unfolding before entryBefore
+here-on {w} {b} {p} {r} {i} H {e} {l} {q} y f g = go (decLt r b)
+  where
+    C : IsCell b i (H .v) r
+    C = H .cell
+
+    go : Dec (r < b) → Here w b q l (i + 1)
+    go (yes h) =
+        let z : l ≡ suc r = f ∙ low-same b r h in
+        subst (λ (l : ℕ). q ≡ entryBefore l e → Here w b q l (i + 1)) (sym z)
+        (λ g. record { v = H .v; cell = next-low b i (H .v) r C h; carried = g ∙ y }) g
+    go (no h) =
+        let z : l ≡ 0 = f ∙ low-last b r (omega (arith, C .low)) in
+        subst (λ (l : ℕ). q ≡ entryBefore l e → Here w b q l (i + 1)) (sym z)
+        (λ g. record { v = suc (H .v); cell = next-block b i (H .v) r C (omega (arith, C .low)); carried = g }) g
 
 -- THE LOOP over the cells
-pub record Going (w area m : List ℕ) (b size : ℕ) (a : List ℕ) (count i : ℕ) : Type 0 where
+pub record Going (w area m : List ℕ) (b size : ℕ) (a : List ℕ) (count p r i : ℕ) : Type 0 where
   pub scan : Scan w b m size
   pub table : Table (graph w) (header w .blocks) b area
   pub room : areaSize (header w .blocks) b ≤ length a
   pub upto : i ≤ size
+  pub word : p < wordLimit
+  pub here : Here w b p r i
   pub state : State w b a count i
 
-module _ {w area m : List ℕ} {b size : ℕ} {a : List ℕ} {count i : ℕ} (G : Going w area m b size a count i) where
-  pub going-on : {v r : ℕ} → i < size → IsCell b i v r → {reached : Bool} {n e : ℕ} {a′ : List ℕ} → reached ≡ marked b m v r
-      → n ≡ count + byteOf reached → e ≡ nextEntry (stands b area v r) reached n (entryBefore b a v r) → a′ ≡ set a (cellOf b v r) e
-      → Going w area m b size a′ n (i + 1)
-  going-on {v} {r} h C {reached} {n} {e} {a′} p q f g = record {
-    scan = G .scan;
-    table = G .table;
-    room = omega (arith, G .room, ap length g, length-set a (cellOf b v r) e);
-    upto = omega arith;
-    state =
-        state-on w b a count i v r (G .state) (omega (arith, G .scan .cells)) C area m (G .table) (G .scan .exact) (G .room)
-        reached n e a′ p q f g;
-  }
+module _ {w area m : List ℕ} {b size : ℕ} {a : List ℕ} {count p r i : ℕ} (G : Going w area m b size a count p r i) where
+  pub going-on : i < size → {reached : Bool} {n e l q : ℕ} {a′ : List ℕ} → reached ≡ markedAt m i → n ≡ count + byteOf reached
+      → (e ≡ nextEntry (isSet area i) reached n p) × (e < wordLimit) → a′ ≡ set a i e → l ≡ (r + 1) % (b + 1)
+      → (q ≡ entryBefore l e) × (q ≤ e) → Going w area m b size a′ n q l (i + 1)
+  going-on h {reached} {n} {e} {l} {q} {a′} f c k g j y =
+      let H = G .here in
+      let z =
+      state-on w b a count i (H .v) r (G .state) (omega (arith, G .scan .cells)) (H .cell) area m (G .table) (G .scan .exact) (G .room)
+      reached n p e a′ f c (H .carried) (k .0) g in
+      record {
+        scan = G .scan;
+        table = G .table;
+        room = omega (arith, G .room, ap length g, length-set a i e);
+        upto = omega arith;
+        word = omega (arith, k .1, y .1);
+        here = here-on H (z .1) j (y .0);
+        state = z .0;
+      }
 
   pub going-end : size ≤ i → (count ≡ length (sheetCopiesAt w b)) × Numbers w b a
   going-end h = state-end w b a count i (G .state) (omega (arith, G .upto, G .scan .cells)) (G .room)

@@ -3,7 +3,7 @@
 use mathlib.Core.Path.{_≡_, sym, ap, ap₂, subst, _∙_}
 use mathlib.Core.List.{List, [], _∷_, _++_, map}
 use Prim.Native.Nat.{ℕ, zero, suc, _+_, _-_, _*_, _≤_, _<_, _/_, _%_}
-use native.Mathlib.Nat.{suc-mul, mul-le-mul, mul-le-mul-right, div-add-mod', mod-lt}
+use native.Mathlib.Nat.{suc-mul, mul-le-mul, mul-le-mul-right, div-add-mod', mod-lt, mod-eq-of-lt, mod-self}
 use native.Mathlib.Omega.{arith}
 use native.Mathlib.Decide.{ℕ-discrete, decLe}
 use native.Mathlib.Numerals.{add-one}
@@ -93,6 +93,30 @@ code-cell b i =
     let r : i % suc b < suc b = mod-lt i (omega arith) in
     subst (λ (k : ℕ). IsCell b i (i / k + 1) (i % k)) (sym (add-one b))
     (record { block = omega arith; low = omega arith; place = rw z (sym (div-add-mod' i (suc b))) })
+
+-- THE NEXT CELL: that of the next low, or, behind the last low, that of the next block
+pub first-cell : (b : ℕ) → IsCell b 0 1 0
+unfolding cellOf
+first-cell b = record { block = omega arith; low = omega arith; place = omega arith }
+
+module _ (b i v r : ℕ) (C : IsCell b i v r) where
+  pub next-low : r < b → IsCell b (i + 1) v (suc r)
+  unfolding cellOf
+  next-low h = record { block = C .block; low = omega arith; place = omega (arith, C .place) }
+
+  pub next-block : r ≡ b → IsCell b (i + 1) (suc v) 0
+  unfolding cellOf
+  next-block h =
+      let z : suc v - 1 ≡ suc (v - 1) = omega (arith, C .block) in
+      record { block = omega arith; low = omega arith; place = rw z (omega (arith, C .place, suc-mul (v - 1) (suc b))) }
+
+-- its low, as the code computes it
+module _ (b r : ℕ) where
+  pub low-same : r < b → (r + 1) % (b + 1) ≡ suc r
+  low-same h = mod-eq-of-lt {n = r + 1} {m = b + 1} (omega arith) ∙ add-one r
+
+  pub low-last : r ≡ b → (r + 1) % (b + 1) ≡ 0
+  low-last e = rw e (mod-self (b + 1))
 
 -- a cell of the area is that of a block
 pub cell-block : (n b i v l : ℕ) → IsCell b i v l → i < areaSize n b → v ≤ n

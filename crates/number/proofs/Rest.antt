@@ -11,7 +11,7 @@ use lib.ListN.{length, getD, drop}
 use Rattle.base.specs.Lists.{keep}
 use Rattle.base.specs.Copy.{Copy, copyOf, isIn}
 use Rattle.base.proofs.Truth.{same-test}
-use Rattle.base.proofs.Lists.{keep-i, keep-e}
+use Rattle.base.proofs.Lists.{keep-i, keep-e, keep-same}
 use Rattle.base.proofs.Copies.{isIn-mem, mem-isIn}
 use Rattle.theory.specs.Copies.{spread, startCopies, candidates, copiesFrom}
 use Rattle.formats.specs.Limits.{mostBudget}
@@ -32,16 +32,6 @@ module _ {A : Type 0} (f : A → Bool) where
   keep-no : (x : A) (xs : List A) → f x ≡ false → keep f (x ∷ xs) ≡ keep f xs
   unfolding keep
   keep-no x xs e = rw (e, keep)
-
-  keep-same : (g : A → Bool) (xs : List A) → ((x : A) → List·Memᴰ x xs → f x ≡ g x) → keep f xs ≡ keep g xs
-  unfolding keep
-  keep-same g [] h = refl
-  keep-same g (x ∷ xs) h = go (f x) refl (keep-same g xs (λ y m. h y (List·Memᴰ·tail m)))
-    where
-      go : (b : Bool) → f x ≡ b → keep f xs ≡ keep g xs → keep f (x ∷ xs) ≡ keep g (x ∷ xs)
-      go true e r =
-          let k : g x ≡ true = sym (h x (List·Memᴰ·head refl)) ∙ e in rw (e, k, keep) (ap (λ (l : List A). x ∷ l) r)
-      go false e r = let k : g x ≡ false = sym (h x (List·Memᴰ·head refl)) ∙ e in rw (e, k, keep) r
 
 -- THE COPIES OF A SHEET FROM THE CELL i ON
 module _ (w : List ℕ) (b : ℕ) where

@@ -1,24 +1,17 @@
-// The numbers of the copies, and how many copies and edges there are. Below the public calls.
-// Rests on graph_words, graph_check, cells, tables; the copies are the marked cells in order.
+// The numbers of the copies, and how many copies there are. Below the public calls.
+// Rests on graph_words, cells; the copies are the marked cells in order.
 ghost use mathlib.Core.Path.{_≡_};
-ghost use Prim.Native.Nat.{suc, _+_, _<_, _≤_};
+ghost use Prim.Native.Nat.{_+_, _<_, _≤_, _%_};
 ghost use lib.ListN.{length};
-ghost use Rattle.formats.specs.Limits.{mostBudget, mostEdges, wordLimit};
+ghost use Rattle.formats.specs.Limits.{mostBudget, wordLimit};
 ghost use Rattle.formats.specs.GraphSheet.{header, sheetRefusal};
-ghost use Rattle.formats.specs.BoundedSheet.{edgeCount};
 ghost use Rattle.calls.specs.SheetGraph.{graph};
-ghost use Rattle.calls.specs.Area.{cellOf, areaSize, byteOf, stands, Table};
-ghost use Rattle.cells.specs.Cells.{Within};
+ghost use Rattle.calls.specs.Area.{areaSize, byteOf, isSet, Table};
 ghost use Rattle.tables.specs.Tables.{sheetCopiesAt, Exactly, Numbers};
-ghost use Rattle.number.specs.Scan.{mostCells, IsCell, NextMarked};
-ghost use Rattle.tables.specs.Rows.{sheetRowsAt};
+ghost use Rattle.number.specs.Scan.{mostCells, IsCell, markedAt, NextMarked};
 ghost use Rattle.number.specs.Entries.{entryBefore, nextEntry};
-use cells::is_set;
-use graph_check::successor_count;
+use cells::is_set_at;
 use graph_words::blocks;
-use tables::entry;
-use tables::is_marked;
-use tables::put_entry;
 
 // THE CELLS IN ORDER
 
@@ -76,35 +69,42 @@ fn more(count: usize, reached: bool) -> usize
     count
 }
 
-// The entry of v with one cycle less than r, 0 at the first.
-fn entry_before(numbers: &[u16], b: usize, v: usize, r: usize) -> usize
-    requires { ⌜ Within b v r ⌝ }
-    requires { ⌜ cellOf b v r < length (now numbers) ⌝ }
-    ensures { λ x. ⌜ (x ≡ entryBefore b (now (numbers .entry)) v r) × (x < wordLimit) ⌝ }
+// The low of the next cell, 0 behind the last of a block.
+fn low_after(b: usize, r: usize) -> usize
+    requires { ⌜ (b ≤ mostBudget) × (r ≤ b) ⌝ }
+    ensures { λ l. ⌜ l ≡ (r + 1) % (b + 1) ⌝ }
+{
+    if r < b {
+        return r + 1;
+    }
+    0
+}
+
+// What an entry with r cycles left goes by, where x is the entry of the cell before: 0 at the first of a block.
+fn entry_before(r: usize, x: usize) -> usize
+    ensures { λ y. ⌜ (y ≡ entryBefore r x) × (y ≤ x) ⌝ }
 {
     if r == 0 {
         return 0;
     }
-    entry(numbers, b, v, r - 1)
+    x
 }
 
-// The entry of v and r, where count is the number of the copies up to this cell.
-fn entry_at(
-    area: &[u8],
-    numbers: &[u16],
-    b: usize,
-    v: usize,
-    r: usize,
-    reached: bool,
-    count: usize,
-) -> usize
-    requires { ⌜ Within b v r ⌝ }
-    requires { ⌜ (cellOf b v r < length (now area)) × (cellOf b v r < length (now numbers)) × (count < wordLimit) ⌝ }
-    ensures { λ x. ⌜ x ≡ nextEntry (stands b (now (area .entry)) v r) reached count (entryBefore b (now (numbers .entry)) v r) ⌝ }
-    ensures { λ x. ⌜ x < wordLimit ⌝ }
+// Whether the copy at i is marked.
+fn is_marked_at(marks: &[u8], i: usize) -> bool
+    requires { ⌜ i < length (now marks) ⌝ }
+    ensures { λ r. ⌜ r ≡ markedAt (now (marks .entry)) i ⌝ }
 {
-    if !is_set(area, b, v, r) {
-        return entry_before(numbers, b, v, r);
+    marks[i] != 0
+}
+
+// The entry at i, where count is the number of the copies up to this cell.
+fn entry_at(area: &[u8], i: usize, reached: bool, count: usize, before: usize) -> usize
+    requires { ⌜ (i < length (now area)) × (count < wordLimit) × (before < wordLimit) ⌝ }
+    ensures { λ x. ⌜ (x ≡ nextEntry (isSet (now (area .entry)) i) reached count before) × (x < wordLimit) ⌝ }
+{
+    if !is_set_at(area, i) {
+        return before;
     }
     if reached {
         return count;
@@ -124,43 +124,17 @@ pub fn number(s: &[u16], area: &[u8], marks: &[u8], numbers: &mut [u16], b: usiz
 {
     let size = cell_count(s, b);
     let mut count = 0;
+    let mut before = 0;
+    let mut low = 0;
     let mut i = 0;
     while i < size {
-        let c = cell_at(b, i);
-        let reached = is_marked(marks, b, c.block, c.low);
+        let reached = is_marked_at(marks, i);
         count = more(count, reached);
-        let x = entry_at(area, numbers, b, c.block, c.low, reached, count);
-        put_entry(numbers, b, c.block, c.low, x);
+        let x = entry_at(area, i, reached, count, before);
+        numbers[i] = x as u16;
+        low = low_after(b, low);
+        before = entry_before(low, x);
         i += 1;
     }
     count
-}
-
-// THE EDGES
-
-// The number of successors of v.
-pub fn degree(s: &[u16], v: usize) -> usize
-    requires { ⌜ sheetRefusal (now s) ≡ 0 ⌝ }
-    requires { ⌜ (1 ≤ v) × (v ≤ header (now s) .blocks) ⌝ }
-    ensures { λ r. ⌜ (r ≡ length (graph (now (s .entry)) .next v)) × (r ≤ suc mostEdges) ⌝ }
-{
-    successor_count(s, v)
-}
-
-// The number of edges of all copies.
-pub fn count_edges(s: &[u16], marks: &[u8], b: usize) -> usize
-    requires { ⌜ sheetRefusal (now s) ≡ 0 ⌝ }
-    requires { ⌜ b ≤ mostBudget ⌝ }
-    requires { ⌜ Exactly (now s) b (now marks) ⌝ }
-    ensures { λ r. ⌜ r ≡ edgeCount (sheetRowsAt (now (s .entry)) b) ⌝ }
-{
-    let size = cell_count(s, b);
-    let mut e = 0;
-    let mut i = next_marked(marks, size, 0);
-    while i < size {
-        let c = cell_at(b, i);
-        e += degree(s, c.block);
-        i = next_marked(marks, size, i + 1);
-    }
-    e
 }

@@ -11,7 +11,7 @@ use Rattle.base.specs.Lists.{any}
 use Rattle.theory.specs.Completions.{completes}
 use Rattle.formats.specs.GraphSheet.{header, firstWord, targetWord, nextWord}
 use Rattle.calls.specs.SheetGraph.{graph}
-use Rattle.calls.specs.Area.{cellOf, stands}
+use Rattle.calls.specs.Area.{cellOf, isSet, stands}
 use Rattle.calls.proofs.Area.{set-byte}
 use Rattle.chains.specs.Rest.{AnyRest}
 use Rattle.chains.proofs.Rest.{is-successor, edge-fits, any-start, any-end, any-out, any-hit, any-on}
@@ -52,7 +52,7 @@ module _ {w : List ℕ} {b : ℕ} {area : List ℕ} (S : Ready w b area) (v d : 
         -- the target's cell is read
         module _ (h : Ahead w b area v d) {m : Bool} (q : m ≡ stands b area t d) where
           read : completes (graph w) t d ≡ m
-          unfolding stands Ahead
+          unfolding stands isSet Ahead
           read = sym (q ∙ ap (λ (x : ℕ). not (eqb x 0)) (h t successor) ∙ set-byte (completes (graph w) t d))
 
           pub hit : m ≡ true → true ≡ some

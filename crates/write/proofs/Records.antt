@@ -14,7 +14,8 @@ use Rattle.tables.specs.Tables.{sheetCopiesAt}
 use Rattle.tables.specs.Rows.{sheetRowsAt, sheetRowAt}
 use Rattle.number.specs.Scan.{IsCell, NextMarked}
 use Rattle.number.proofs.Rest.{rest, Scan, AtCopy, at-first, at-here, at-next, at-end}
-use Rattle.number.proofs.Edges.{rows, row-length, edges-start, edges-on}
+use Rattle.tables.proofs.Rows.{row-length}
+use Rattle.number.proofs.Edges.{rows, edges-start, edges-on}
 use Rattle.write.specs.Put.{putWords}
 use Rattle.write.proofs.Put.{put-none, put-length, put-more}
 

@@ -1,5 +1,5 @@
 // The words of the bounded sheet. Below the public calls.
-// Rests on graph_words, tables, number; the copies are the marked cells in order.
+// Rests on graph_words, tables, degrees, number; the copies are the marked cells in order.
 ghost use mathlib.Core.Path.{_≡_};
 ghost use mathlib.Core.List.{List, [], _∷_, _++_};
 ghost use Prim.Native.Nat.{ℕ, _+_, _*_, _<_, _≤_};
@@ -9,9 +9,10 @@ ghost use Rattle.formats.specs.Limits.{mostBudget, mostCopies, mostBoundedEdges
 ghost use Rattle.formats.specs.GraphSheet.{header, sheetRefusal};
 ghost use Rattle.formats.specs.BoundedSheet.{firstEdge, edgeRecords, copyWords, edgeWords, edgeCount, sheetWords};
 ghost use Rattle.calls.specs.SheetGraph.{graph};
-ghost use Rattle.tables.specs.Tables.{sheetCopiesAt, Exactly, Numbers};
+ghost use Rattle.tables.specs.Tables.{sheetCopiesAt, Exactly, Numbers, Degrees};
 ghost use Rattle.tables.specs.Rows.{sheetRowsAt, sheetRowAt};
 ghost use Rattle.write.specs.Put.{putWords};
+use degrees::degree;
 use graph_words::HEADER_WORDS;
 use graph_words::cost_of;
 use graph_words::first_of;
@@ -19,7 +20,6 @@ use graph_words::next_of;
 use graph_words::target_of;
 use number::cell_at;
 use number::cell_count;
-use number::degree;
 use number::next_marked;
 use tables::entry;
 
@@ -53,8 +53,9 @@ fn first_edge(e: usize, d: usize) -> usize
 }
 
 // Puts the copy records behind the header.
-fn write_copies(s: &[u16], marks: &[u8], out: &mut [u16], b: usize)
+fn write_copies(s: &[u16], degrees: &[u16], marks: &[u8], out: &mut [u16], b: usize)
     requires { ⌜ sheetRefusal (now s) ≡ 0 ⌝ }
+    requires { ⌜ Degrees (now s) (now degrees) ⌝ }
     requires { ⌜ b ≤ mostBudget ⌝ }
     requires { ⌜ Exactly (now s) b (now marks) ⌝ }
     requires { ⌜ edgeCount (sheetRowsAt (now s) b) ≤ mostBoundedEdges ⌝ }
@@ -67,7 +68,7 @@ fn write_copies(s: &[u16], marks: &[u8], out: &mut [u16], b: usize)
     let mut i = next_marked(marks, size, 0);
     while i < size {
         let c = cell_at(b, i);
-        let d = degree(s, c.block);
+        let d = degree(degrees, c.block);
         let first = first_edge(e, d);
         put_three(out, at, c.block, c.low, first);
         at += 3;
@@ -80,6 +81,7 @@ fn write_copies(s: &[u16], marks: &[u8], out: &mut [u16], b: usize)
 // The number behind its last edge.
 fn write_chain(
     s: &[u16],
+    degrees: &[u16],
     numbers: &[u16],
     out: &mut [u16],
     b: usize,
@@ -89,6 +91,7 @@ fn write_chain(
     e: usize,
 ) -> usize
     requires { ⌜ sheetRefusal (now s) ≡ 0 ⌝ }
+    requires { ⌜ Degrees (now s) (now degrees) ⌝ }
     requires { ⌜ (b ≤ mostBudget) × Numbers (now s) b (now numbers) ⌝ }
     requires { ⌜ (1 ≤ v) × (v ≤ header (now s) .blocks) × (graph (now s) .cost v ≤ l) × (l ≤ b) ⌝ }
     requires { ⌜ e + length (graph (now s) .next v) < wordLimit ⌝ }
@@ -98,7 +101,7 @@ fn write_chain(
         (edgeRecords e (sheetRowAt (now (s .entry)) b (copyOf v l) .targetWords)) ⌝ }
 {
     let left = l - cost_of(s, v);
-    let mut d = degree(s, v);
+    let mut d = degree(degrees, v);
     let mut y = first_of(s, v);
     let mut n = e;
     while 0 < d {
@@ -114,8 +117,17 @@ fn write_chain(
 }
 
 // Puts the edge records behind the copy records.
-fn write_edges(s: &[u16], marks: &[u8], numbers: &[u16], out: &mut [u16], b: usize, copies: usize)
+fn write_edges(
+    s: &[u16],
+    degrees: &[u16],
+    marks: &[u8],
+    numbers: &[u16],
+    out: &mut [u16],
+    b: usize,
+    copies: usize,
+)
     requires { ⌜ sheetRefusal (now s) ≡ 0 ⌝ }
+    requires { ⌜ Degrees (now s) (now degrees) ⌝ }
     requires { ⌜ b ≤ mostBudget ⌝ }
     requires { ⌜ Exactly (now s) b (now marks) ⌝ }
     requires { ⌜ Numbers (now s) b (now numbers) ⌝ }
@@ -129,7 +141,7 @@ fn write_edges(s: &[u16], marks: &[u8], numbers: &[u16], out: &mut [u16], b: usi
     let mut i = next_marked(marks, size, 0);
     while i < size {
         let c = cell_at(b, i);
-        e = write_chain(s, numbers, out, b, c.block, c.low, base, e);
+        e = write_chain(s, degrees, numbers, out, b, c.block, c.low, base, e);
         i = next_marked(marks, size, i + 1);
     }
 }
@@ -137,6 +149,7 @@ fn write_edges(s: &[u16], marks: &[u8], numbers: &[u16], out: &mut [u16], b: usi
 // Writes the bounded sheet within the budget b, whose copies and edges are counted.
 pub fn write_sheet(
     s: &[u16],
+    degrees: &[u16],
     marks: &[u8],
     numbers: &[u16],
     out: &mut [u16],
@@ -145,6 +158,7 @@ pub fn write_sheet(
     edges: usize,
 )
     requires { ⌜ sheetRefusal (now s) ≡ 0 ⌝ }
+    requires { ⌜ Degrees (now s) (now degrees) ⌝ }
     requires { ⌜ b ≤ mostBudget ⌝ }
     requires { ⌜ Exactly (now s) b (now marks) ⌝ }
     requires { ⌜ Numbers (now s) b (now numbers) ⌝ }
@@ -155,6 +169,6 @@ pub fn write_sheet(
         ++ drop (length (sheetWords b (sheetRowsAt (now (s .entry)) b))) (now (out .entry)) ⌝ }
 {
     put_three(out, 0, copies, edges, b);
-    write_copies(s, marks, out, b);
-    write_edges(s, marks, numbers, out, b, copies);
+    write_copies(s, degrees, marks, out, b);
+    write_edges(s, degrees, marks, numbers, out, b, copies);
 }

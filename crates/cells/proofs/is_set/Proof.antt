@@ -1,24 +1,18 @@
 -- `cells::is_set` meets its contract.
--- Rests on `place`.
-use mathlib.Core.Path.{ap}
-use mathlib.Core.Bool.{not}
-use Prim.Native.Nat.{ℕ}
+-- Rests on `place`, `is_set_at`.
+use mathlib.Core.Path.{ap, _∙_}
+use native.Mathlib.Omega.{arith}
 use borrow.Author.Needs.{needs}
-use lib.Dec.{eqb}
-use lib.ListN.{getD}
-use Rattle.calls.specs.Area.{stands}
+use Rattle.calls.specs.Area.{isSet, stands}
 use Rattle.cells.proofs.is_set.Statement.{statement}
 use Rattle.cells.proofs.is_set.Tie as tie
 
-place-requires : tie.Need-place-requires
-place-requires c κs = search needs
-
-shared-slice-read-result : tie.Need-shared-slice-read-result
-shared-slice-read-result c = search needs
+is-set-at-requires : tie.Need-is-set-at-requires
+is-set-at-requires c κs = search needs
 
 returns : tie.Need-returns
 unfolding stands
-returns c = ap (λ (i : ℕ). not (eqb (getD (c .before .before .before .args .area .now) i 0) 0)) (c .before .place .ensures)
+returns c = c .is-set-at .ensures ∙ ap (isSet _) (c .before .place .ensures)
 
 pub is-set-spec : {M : Type 1} → statement M
-is-set-spec = tie.close (tie.spec place-requires shared-slice-read-result returns)
+is-set-spec = tie.close (tie.spec (λ c κs. search needs) is-set-at-requires returns)

@@ -4,18 +4,18 @@ use mathlib.Core.Path.{_≡_, refl, _∙_}
 use Prim.Native.Nat.{_-_}
 use native.Mathlib.Omega.{arith}
 use borrow.Author.Needs.{needs}
-use lib.ListN.{length}
-use Rattle.number.proofs.Rest.{scan-of, cell-fits}
-use Rattle.number.proofs.Numbering.{Going, state-start, byte-small, going-on, going-end}
+use lib.ListN.{length, length-set}
+use Rattle.number.proofs.Rest.{scan-of, scan-room}
+use Rattle.number.proofs.Numbering.{Going, state-start, here-start, byte-small, going-on, going-end}
 use Rattle.number.proofs.number.Statement.{statement}
 use Rattle.number.proofs.number.Tie as tie
 
 abbrev Inv-loop : tie.InvT-loop
-Inv-loop s area marks numbers₀ b size count₀ i₀ numbers count i =
-    (length numbers ≡ length numbers₀) × Going s area marks b size numbers count i
+Inv-loop s area marks numbers₀ b size count₀ before₀ low₀ i₀ numbers count before low i =
+    (length numbers ≡ length numbers₀) × Going s area marks b size numbers count before low i
 
 abbrev μ-loop : tie.MeasureT-loop
-μ-loop s area marks numbers₀ b size count₀ i₀ numbers count i = size - i
+μ-loop s area marks numbers₀ b size count₀ before₀ low₀ i₀ numbers count before low i = size - i
 
 cell-count-requires : tie.Need-cell-count-requires Inv-loop μ-loop
 cell-count-requires c κs = let z = c .before .before .before .before in (z .pre .0, z .pre .1 .0 .0)
@@ -30,56 +30,50 @@ loop-holds c =
         table = p .1 .0;
         room = p .0 .1;
         upto = omega arith;
+        word = omega arith;
+        here = here-start _ _;
         state = state-start _ _ _;
       },
     )
 
-cell-at-requires : tie.Need-cell-at-requires Inv-loop μ-loop
-cell-at-requires c κs = let G = c .before .loop .inv .1 in (G .scan .budget, omega (arith, G .scan .few))
-
-is-marked-requires : tie.Need-is-marked-requires Inv-loop μ-loop
-is-marked-requires c κs =
-    let G = c .before .before .loop .inv .1 in
-    let F = cell-fits (G .scan) (c .before .loop-test .taken) (c .cell-at .ensures) in
-    (F .within, omega (arith, F .inside, G .scan .exact .room))
+is-marked-at-requires : tie.Need-is-marked-at-requires Inv-loop μ-loop
+is-marked-at-requires c κs = omega (arith, scan-room (c .before .loop .inv .1 .scan))
 
 more-requires : tie.Need-more-requires Inv-loop μ-loop
-more-requires c κs = let G = c .before .before .before .loop .inv .1 in omega (arith, G .state .small, G .scan .few)
+more-requires c κs = let G = c .before .before .loop .inv .1 in omega (arith, G .state .small, G .scan .few)
 
 entry-at-requires : tie.Need-entry-at-requires Inv-loop μ-loop
 entry-at-requires c κs =
-    let k = c .before .before .before in
-    let G = k .before .before .loop .inv .1 in
-    let F = cell-fits (G .scan) (k .before .loop-test .taken) (k .cell-at .ensures) in (
-      F .within,
-      (
-        omega (arith, F .inside, G .table .room),
-        omega (arith, F .inside, G .room),
-        omega (arith, c .before .more .ensures, byte-small (c .before .before .is-marked .result), G .state .small, G .scan .few),
-      ),
+    let G = c .before .before .before .loop .inv .1 in (
+      omega (arith, G .scan .cells, G .table .room),
+      omega (arith, c .more .ensures, byte-small (c .before .is-marked-at .result), G .state .small, G .scan .few),
+      G .word,
     )
 
-put-entry-requires : tie.Need-put-entry-requires Inv-loop μ-loop
-put-entry-requires c κs =
-    let k = c .before .before .before .before .before in
-    let G = k .before .before .loop .inv .1 in
-    let F = cell-fits (G .scan) (k .before .loop-test .taken) (k .cell-at .ensures) in
-    (F .within, (omega (arith, F .inside, G .room), c .before .entry-at .ensures .1))
+cast-numbers : tie.Need-cast-numbers Inv-loop μ-loop
+cast-numbers c = omega (arith, c .entry-at .ensures .1)
+
+mul-numbers : tie.Need-mul-numbers Inv-loop μ-loop
+mul-numbers c = search needs
+
+slice-write-numbers : tie.Need-slice-write-numbers Inv-loop μ-loop
+slice-write-numbers c = let G = c .before .before .before .before .loop .inv .1 in omega (arith, G .scan .cells, G .room)
+
+low-after-requires : tie.Need-low-after-requires Inv-loop μ-loop
+low-after-requires c κs = let G = c .before .before .before .before .loop .inv .1 in (G .scan .budget, G .here .cell .low)
 
 add-i : tie.Need-add-i Inv-loop μ-loop
-add-i c =
-    omega (arith, c .before .before .before .before .before .before .before .before .before .before .loop .inv .1 .scan .few)
+add-i c = omega (arith, c .before .before .before .before .before .before .loop .inv .1 .scan .few)
 
 loop-again : tie.Need-loop-again Inv-loop μ-loop
 loop-again c =
-    let p = c .before .before in
-    let e = p .before .before in
-    let m = e .before .before in
+    let e = c .before .before in
+    let m = e .before in
     let k = m .before .before in
-    let l = k .before .before .loop in (
-      p .put-entry .kept .0 ∙ l .inv .0,
-      going-on (l .inv .1) (k .before .loop-test .taken) (k .cell-at .ensures) (m .before .is-marked .ensures) (m .more .ensures)
-          (e .entry-at .ensures .0) (p .put-entry .ensures),
+    let l = k .before .loop in (
+      length-set (l .numbers) (l .i) (e .entry-at .result) ∙ l .inv .0,
+      going-on (l .inv .1) (k .loop-test .taken) (m .before .is-marked-at .ensures) (m .more .ensures) (e .entry-at .ensures) refl
+          (c .before .low-after .ensures) (c .entry-before .ensures),
     )
 
 same-length : tie.Need-same-length Inv-loop μ-loop
@@ -94,5 +88,5 @@ returns c =
 pub number-spec : {M : Type 1} → statement M
 number-spec =
     tie.close
-    (tie.spec Inv-loop μ-loop cell-count-requires loop-holds cell-at-requires is-marked-requires more-requires entry-at-requires
-    put-entry-requires add-i (λ c. search needs) loop-again same-length returns)
+    (tie.spec Inv-loop μ-loop cell-count-requires loop-holds is-marked-at-requires more-requires entry-at-requires cast-numbers mul-numbers
+    slice-write-numbers low-after-requires (λ c κs. search needs) add-i (λ c. search needs) loop-again same-length returns)

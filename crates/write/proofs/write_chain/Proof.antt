@@ -10,46 +10,46 @@ use Rattle.write.proofs.write_chain.Statement.{statement}
 use Rattle.write.proofs.write_chain.Tie as tie
 
 abbrev Inv-loop : tie.InvT-loop
-Inv-loop s numbers out₀ b v l base e left d₀ y₀ n₀ out d y n = Walked s b v left numbers out₀ out base e n y d
+Inv-loop s degrees numbers out₀ b v l base e left d₀ y₀ n₀ out d y n = Walked s b v left numbers out₀ out base e n y d
 
 abbrev μ-loop : tie.MeasureT-loop
-μ-loop s numbers out₀ b v l base e left d₀ y₀ n₀ out d y n = d
+μ-loop s degrees numbers out₀ b v l base e left d₀ y₀ n₀ out d y n = d
 
 cost-of-requires : tie.Need-cost-of-requires Inv-loop μ-loop
 cost-of-requires c κs =
-    let z = c .before .before .before in
-    let p = z .pre .1 .1 .0 in
+    let z = c .before .before .before .before in
+    let p = z .pre .1 .1 .1 .0 in
     (formed-of _ (z .pre .0), (p .0, p .1))
 
 sub-left : tie.Need-sub-left Inv-loop μ-loop
 sub-left c =
-    let z = c .before .before .before .before in
-    omega (arith, c .cost-of .ensures .0, cost-is (z .args .s .now) (z .args .v), z .pre .1 .1 .0 .2)
+    let z = c .before .before .before .before .before in
+    omega (arith, c .cost-of .ensures .0, cost-is (z .args .s .now) (z .args .v), z .pre .1 .1 .1 .0 .2)
 
 degree-requires : tie.Need-degree-requires Inv-loop μ-loop
 degree-requires c κs =
-    let z = c .before .before .before .before in
-    let p = z .pre .1 .1 .0 in
-    (z .pre .0, (p .0, p .1))
+    let q = c .before .before .before .before .before .pre .1 in
+    omega (arith, q .0 .room, q .1 .1 .0)
 
 first-of-requires : tie.Need-first-of-requires Inv-loop μ-loop
 first-of-requires c κs =
-    let z = c .before .before .before .before .before in
-    let p = z .pre .1 .1 .0 in
+    let z = c .before .before .before .before .before .before in
+    let p = z .pre .1 .1 .1 .0 in
     (formed-of _ (z .pre .0), (p .0, p .1))
 
 loop-holds : tie.Need-loop-holds Inv-loop μ-loop
 loop-holds c =
-    let z = c .before .before .before .before .before .before in
-    let p = z .pre .1 .1 .0 in
-    let q = z .pre .1 .1 .1 in
-    let d = c .before .degree .ensures .0 in
+    let z = c .before .before .before .before .before .before .before in
+    let n = z .pre .1 .1 .0 in
+    let p = z .pre .1 .1 .1 .0 in
+    let q = z .pre .1 .1 .1 .1 in
+    let d = c .before .degree .ensures .0 ∙ z .pre .1 .0 .entries _ (p .0) (p .1) in
     walked-start (record {
       ok = z .pre .0;
-      budget = z .pre .1 .0 .0;
+      budget = n .0;
       block = (p .0, p .1);
       cycles = omega (arith, p .3);
-      entries = z .pre .1 .0 .1;
+      entries = n .1;
     })
     _ _ _ _ _ (c .first-of .ensures .0) d (omega (arith, d, q .0)) (omega (arith, d, q .1))
 
@@ -100,7 +100,7 @@ same-length c = c .before .loop .inv .same
 
 returns : tie.Need-returns Inv-loop μ-loop
 returns c =
-    let z = c .before .before .before .before .before .before .before .before in
+    let z = c .before .before .before .before .before .before .before .before .before in
     let f = c .before .before .before .before .cost-of .ensures .0 ∙ cost-is (z .args .s .now) (z .args .v) in
     walked-end (c .before .loop .inv) (z .args .l) (ap (λ (x : ℕ). z .args .l - x) f) (omega arith)
 

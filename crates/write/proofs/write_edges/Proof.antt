@@ -4,7 +4,7 @@ use mathlib.Core.Path.{sym, ap, _∙_}
 use Prim.Native.Nat.{_+_, _-_, _*_}
 use native.Mathlib.Omega.{arith}
 use borrow.Author.Needs.{needs}
-use Rattle.tables.specs.Tables.{Numbers}
+use Rattle.tables.specs.Tables.{Numbers, Degrees}
 use Rattle.number.proofs.Rest.{scan-of, scan-room, cell-fits, at-copy}
 use Rattle.write.specs.Put.{putWords}
 use Rattle.write.proofs.Low.{low-covers}
@@ -14,27 +14,29 @@ use Rattle.write.proofs.write_edges.Statement.{statement}
 use Rattle.write.proofs.write_edges.Tie as tie
 
 abbrev Inv-loop : tie.InvT-loop
-Inv-loop s marks numbers out₀ b copies size base e₀ i₀ out e i =
-    Written edgeRecord s b marks size out₀ (3 + 3 * copies) out (base + 2 * e) e i × Numbers s b numbers
+Inv-loop s degrees marks numbers out₀ b copies size base e₀ i₀ out e i =
+    Written edgeRecord s b marks size out₀ (3 + 3 * copies) out (base + 2 * e) e i × Numbers s b numbers × Degrees s degrees
 
 abbrev μ-loop : tie.MeasureT-loop
-μ-loop s marks numbers out₀ b copies size base e₀ i₀ out e i = size - i
+μ-loop s degrees marks numbers out₀ b copies size base e₀ i₀ out e i = size - i
 
 cell-count-requires : tie.Need-cell-count-requires Inv-loop μ-loop
-cell-count-requires c κs = let z = c .before .before .before .before in (z .pre .0, z .pre .1 .0)
+cell-count-requires c κs = let z = c .before .before .before .before .before in (z .pre .0, z .pre .1 .1 .0)
 
 next-marked-requires : tie.Need-next-marked-requires Inv-loop μ-loop
 next-marked-requires c κs =
-    let z = c .before .before .before .before .before in
-    (omega arith, omega (arith, c .cell-count .ensures, z .pre .1 .1 .0 .room))
+    let z = c .before .before .before .before .before .before in
+    (omega arith, omega (arith, c .cell-count .ensures, z .pre .1 .1 .1 .0 .room))
 
 loop-holds : tie.Need-loop-holds Inv-loop μ-loop
 loop-holds c =
-    let z = c .before .before .before .before .before .before in
-    let p = z .pre .1 .1 in (
-      written-start edgeRecord (scan-of (z .pre .0) (z .pre .1 .0) (p .0) (c .before .cell-count .ensures)) (c .next-marked .ensures)
-          (p .1 .1 .0 .1) _ _ _ (omega arith) (edges-fit _ _ _ _ (p .1 .1 .1)),
-      p .1 .0,
+    let z = c .before .before .before .before .before .before .before in
+    let p = z .pre .1 .1 in
+    let q = p .1 .1 in (
+      written-start edgeRecord (scan-of (z .pre .0) (p .0) (p .1 .0) (c .before .cell-count .ensures)) (c .next-marked .ensures)
+          (q .1 .0 .1) _ _ _ (omega arith) (edges-fit _ _ _ _ (q .1 .1)),
+      q .0,
+      z .pre .1 .0,
     )
 
 cell-at-requires : tie.Need-cell-at-requires Inv-loop μ-loop
@@ -51,7 +53,10 @@ write-chain-requires c κs =
     let d = edge-length W (k .cell-at .ensures) in
     let m = low-covers _ (S .ok) _ _ _ (at-copy (W .here) (k .before .loop-test .taken) (k .cell-at .ensures)) in (
       S .ok,
-      ((S .budget, l .inv .1), ((F .block .0, F .block .1, m, F .within .cost), (omega (arith, f .1), omega (arith, f .0, d)))),
+      (
+        l .inv .2,
+        ((S .budget, l .inv .1), ((F .block .0, F .block .1, m, F .within .cost), (omega (arith, f .1), omega (arith, f .0, d)))),
+      ),
     )
 
 add-next-marked : tie.Need-add-next-marked Inv-loop μ-loop
@@ -75,6 +80,7 @@ loop-again c =
       written-on edgeRecord (l .inv .0) (k .before .loop-test .taken) (k .cell-at .ensures) (c .next-marked2 .ensures) (e .1)
           (omega (arith, e .0, d)) (e .0),
       l .inv .1,
+      l .inv .2,
     )
 
 same-length : tie.Need-same-length Inv-loop μ-loop
