@@ -14,7 +14,6 @@ ghost use Rattle.calls.specs.Area.{areaSize, Table};
 ghost use Rattle.tables.specs.Tables.{sheetCopiesAt, Exactly, Numbers, Degrees};
 ghost use Rattle.tables.specs.Rows.{sheetRowsAt};
 ghost use Rattle.descend.specs.Marks.{Clear};
-ghost use Rattle.number.specs.Scan.{mostCells};
 ghost use Rattle.build.specs.Within.{answerAt, outputAt, built};
 use bounded_words::MOST_BOUNDED_EDGES;
 use bounded_words::MOST_COPIES;
@@ -34,7 +33,14 @@ const SMALL_CELLS: usize = 4096;
 
 // Marks exactly the copies of a weighed graph sheet within the budget b; the table is the look-up's row meanwhile.
 // Answers one more than the edges that there is room for beside those of the copies, 0 where there are too many.
-fn find_copies(s: &[u16], area: &[u8], degrees: &[u16], table: &mut [u16], marks: &mut [u8], b: usize) -> usize
+fn find_copies(
+    s: &[u16],
+    area: &[u8],
+    degrees: &[u16],
+    table: &mut [u16],
+    marks: &mut [u8],
+    b: usize,
+) -> usize
     requires { ⌜ sheetRefusal (now s) ≡ 0 ⌝ }
     requires { ⌜ (b ≤ mostBudget) × (isNone (lowOf (graph (now s)) 1 b) ≡ false) ⌝ }
     requires { ⌜ Table (graph (now s)) (header (now s) .blocks) b (now area) ⌝ }
@@ -65,7 +71,7 @@ fn write_numbered(
     requires { ⌜ b ≤ mostBudget ⌝ }
     requires { ⌜ Exactly (now s) b (now marks) ⌝ }
     requires { ⌜ Numbers (now s) b (now numbers) ⌝ }
-    requires { ⌜ (copies ≡ length (sheetCopiesAt (now s) b)) × (copies ≤ mostCells) ⌝ }
+    requires { ⌜ copies ≡ length (sheetCopiesAt (now s) b) ⌝ }
     requires { ⌜ (edges ≡ edgeCount (sheetRowsAt (now s) b)) × (edges ≤ mostBoundedEdges) ⌝ }
     requires { ⌜ Degrees (now s) (now degrees) ⌝ }
     ensures { λ r. ⌜ r ≡ answerAt (now (s .entry)) b (length (now (out .entry))) ⌝ }

@@ -126,5 +126,14 @@ pub fn reach(s: &[u16], lows: &[u16], degrees: &[u16], marks: &mut [u8], b: usiz
     if MOST_BOUNDED_EDGES < d {
         return 0;
     }
-    follow(s, lows, degrees, marks, b, 1, low, MOST_BOUNDED_EDGES + 1 - d)
+    follow(
+        s,
+        lows,
+        degrees,
+        marks,
+        b,
+        1,
+        low,
+        MOST_BOUNDED_EDGES + 1 - d,
+    )
 }
