@@ -2,7 +2,7 @@
 // It rests on the library and its random material; it prints what the library answers.
 
 use reference::corpus;
-use reference::random::{self, Random, Size};
+use reference::random::{self, area_length, bounded_words, graph_words, length_near, Random, Size};
 use reference::{
     bounded_move, build, check_bounded, check_graph, edge_words, listing, monitored_move,
     successor_count, End, Monitor, Walk,
@@ -117,44 +117,6 @@ fn walk_text(walk: Walk) -> String {
         End::Diverted => 2,
     };
     format!("{} {} {}", walk.place, walk.count, end)
-}
-
-/// A graph sheet that is valid in so many cases of a hundred.
-fn graph_words(random: &mut Random, size: Size, valid: usize) -> Vec<u16> {
-    if random.chance(valid) {
-        random::valid_graph(random, size)
-    } else {
-        random::damaged_graph(random, size)
-    }
-}
-
-/// A bounded sheet that is undamaged in so many cases of a hundred.
-fn bounded_words(random: &mut Random, size: Size, sound: usize) -> Vec<u16> {
-    if random.chance(sound) {
-        random::sound_bounded_sheet(random, size)
-    } else {
-        random::damaged_bounded_sheet(random, size)
-    }
-}
-
-/// A length near the needed one: exact, longer, or shorter.
-fn length_near(random: &mut Random, needed: usize) -> usize {
-    match random.below(10) {
-        0 => needed.saturating_sub(1),
-        1 => random.pick(&[0, 1, needed / 2, needed.saturating_sub(2)]),
-        2..=5 => needed,
-        6 => needed + 1,
-        _ => needed + random.between(1, 5),
-    }
-}
-
-/// A length of the work area near N * (B + 1), or some short length under a refused header.
-fn area_length(random: &mut Random, words: &[u16]) -> usize {
-    let needed = match check_graph(words) {
-        1..=4 => random.below(40),
-        _ => usize::from(words[0]) * (usize::from(words[2]) + 1),
-    };
-    length_near(random, needed)
 }
 
 fn graph_case(random: &mut Random, size: Size) -> Vec<String> {

@@ -757,3 +757,43 @@ pub fn choices(random: &mut Random, words: &[u16]) -> Vec<u32> {
     }
     list
 }
+
+// Sheets and lengths for a case of a comparison.
+
+/// A graph sheet that is valid in so many cases of a hundred.
+pub fn graph_words(random: &mut Random, size: Size, valid: usize) -> Vec<u16> {
+    if random.chance(valid) {
+        valid_graph(random, size)
+    } else {
+        damaged_graph(random, size)
+    }
+}
+
+/// A bounded sheet that is undamaged in so many cases of a hundred.
+pub fn bounded_words(random: &mut Random, size: Size, sound: usize) -> Vec<u16> {
+    if random.chance(sound) {
+        sound_bounded_sheet(random, size)
+    } else {
+        damaged_bounded_sheet(random, size)
+    }
+}
+
+/// A length near the needed one: exact, longer, or shorter.
+pub fn length_near(random: &mut Random, needed: usize) -> usize {
+    match random.below(10) {
+        0 => needed.saturating_sub(1),
+        1 => random.pick(&[0, 1, needed / 2, needed.saturating_sub(2)]),
+        2..=5 => needed,
+        6 => needed + 1,
+        _ => needed + random.between(1, 5),
+    }
+}
+
+/// A length of the work area near N * (B + 1), or some short length under a refused header.
+pub fn area_length(random: &mut Random, words: &[u16]) -> usize {
+    let needed = match check_graph(words) {
+        1..=4 => random.below(40),
+        _ => usize::from(words[0]) * (usize::from(words[2]) + 1),
+    };
+    length_near(random, needed)
+}

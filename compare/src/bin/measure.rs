@@ -1,40 +1,171 @@
-use compare::plain;
+// measure: the library's times beside the reference's and the plain build's, same inputs, one run.
+// It rests on the wrapper, plain.rs, sheets.rs and the reference; every answer, area and output is held to the reference's first.
+//
+// A time is the least of 7 rounds, each the mean of as many calls as take about 2 ms. The buffers are not cleared between calls.
+
+use compare::{plain, sheets};
+use gilstavo::raw;
+use reference::{corpus, End, Walk};
+use std::hint::black_box;
 use std::time::Instant;
-use reference::random::{self, Random, Size};
 
-fn time(mut f: impl FnMut(), rounds: usize) -> f64 {
-    let mut best = f64::MAX;
-    for _ in 0..5 {
-        let t = Instant::now();
-        for _ in 0..rounds { f(); }
-        best = best.min(t.elapsed().as_secs_f64() / rounds as f64);
+/// Microseconds of one call.
+fn time(mut call: impl FnMut()) -> f64 {
+    let began = Instant::now();
+    call();
+    let once = began.elapsed().as_secs_f64().max(1e-8);
+    let calls = ((2e-3 / once) as usize).clamp(1, 10000);
+    let mut least = f64::MAX;
+    for _ in 0..7 {
+        let began = Instant::now();
+        for _ in 0..calls {
+            call();
+        }
+        least = least.min(began.elapsed().as_secs_f64() / calls as f64);
     }
-    best * 1e6
+    least * 1e6
 }
 
-fn one(name: &str, sheet: &[u16]) {
-    let mut area = vec![7u8; 128 * 501];
-    let mut out = vec![9u16; 3 + 3 * 4096 + 2 * 8192];
-    let mut area2 = area.clone();
-    let mut out2 = out.clone();
-    let a = gilstavo::build(sheet, &mut area, &mut out);
-    let a2 = plain::build(sheet, &mut area2, &mut out2);
-    assert_eq!((a, &area, &out), (a2, &area2, &out2));
-    let r = reference::build(sheet, &area, &out);
-    assert_eq!(r.answer, a);
-    let l = time(|| { gilstavo::build(sheet, &mut area, &mut out); }, 50);
-    let p = time(|| { plain::build(sheet, &mut area2, &mut out2); }, 50);
-    let q = time(|| { std::hint::black_box(reference::build(sheet, &area, &out)); }, 10);
-    let c = time(|| { gilstavo::check_graph(sheet); }, 50);
-    let c2 = time(|| { std::hint::black_box(reference::check_graph(sheet)); }, 50);
-    let w = time(|| { gilstavo::weigh(sheet, &mut area); }, 50);
-    println!("{name}: answer {a} lib {l:.1} (check {c:.1} vs {c2:.1}, weigh {w:.1}) plain {p:.1} ref {q:.1} us, ratio plain {:.2} ref {:.2}", l / p, l / q);
+struct Times {
+    answer: u16,
+    copies: u16,
+    edges: u16,
+    library: f64,
+    plain: f64,
+    reference: f64,
 }
+
+/// The build of one sheet, three times over.
+fn build(sheet: &[u16]) -> Times {
+    let mut area = vec![7; gilstavo::MOST_AREA];
+    let mut output = vec![9; gilstavo::MOST_OUTPUT];
+    let wanted = reference::build(sheet, &area, &output);
+    let (mut other_area, mut other_output) = (area.clone(), output.clone());
+    let answer = raw::build(sheet, &mut area, &mut output);
+    let other = plain::build(sheet, &mut other_area, &mut other_output);
+    assert_eq!((answer, &area, &output), (wanted.answer, &wanted.area, &wanted.output), "{sheet:?}");
+    assert_eq!((other, &other_area, &other_output), (wanted.answer, &wanted.area, &wanted.output), "{sheet:?}");
+    let (copies, edges) = if answer == 0 { (output[0], output[1]) } else { (0, 0) };
+    let library = time(|| {
+        black_box(raw::build(black_box(sheet), &mut area, &mut output));
+    });
+    let plain = time(|| {
+        black_box(plain::build(black_box(sheet), &mut area, &mut output));
+    });
+    let reference = time(|| {
+        black_box(reference::build(black_box(sheet), &area, &output));
+    });
+    Times { answer, copies, edges, library, plain, reference }
+}
+
+fn show(name: &str, t: &Times) {
+    let what = if t.answer == 0 { format!("{} copies, {} edges", t.copies, t.edges) } else { format!("refused {}", t.answer) };
+    println!(
+        "{name} ({what}): {:.1} µs; plain {:.1}, ratio {:.2}; reference {:.1}, ratio {:.2}",
+        t.library,
+        t.plain,
+        t.library / t.plain,
+        t.reference,
+        t.library / t.reference
+    );
+}
+
+/// The times of some sheets: their sums, and the means of their ratios.
+fn group(name: &str, times: Vec<&Times>) {
+    let sum = |of: fn(&Times) -> f64| times.iter().map(|t| of(t)).sum::<f64>();
+    let count = times.len() as f64;
+    println!(
+        "{name}: {count} sheets, mean {:.2} µs; ratio of the sums to plain {:.2}, to the reference {:.2}; mean ratio to plain {:.2}, to the reference {:.2}",
+        sum(|t| t.library) / count,
+        sum(|t| t.library) / sum(|t| t.plain),
+        sum(|t| t.library) / sum(|t| t.reference),
+        sum(|t| t.library / t.plain) / count,
+        sum(|t| t.library / t.reference) / count
+    );
+}
+
 fn main() {
-    for (i, s) in reference::corpus::worst().iter().enumerate() { one(&format!("worst {i}"), s); }
-    for (i, s) in reference::corpus::examples().iter().enumerate().take(9) { one(&format!("example {i}"), s); }
-    let mut r = Random::new(5);
-    for i in 0..5 { let s = random::buildable_graph(&mut r, Size::Small); one(&format!("small {i} N{} E{} B{}", s[0], s[1], s[2]), &s); }
-    let mut i = 0;
-    while i < 6 { let s = random::valid_graph(&mut r, Size::Any); if s[0] > 60 { i += 1; one(&format!("any N{} E{} B{}", s[0], s[1], s[2]), &s); } }
+    println!("THE CORPUS (seed 1, 400 random sheets and the named ones)");
+    let sheets = corpus::corpus(1, 400);
+    let times: Vec<Times> = sheets.iter().map(|sheet| build(sheet)).collect();
+    group("all", times.iter().collect());
+    group("accepted", times.iter().filter(|t| t.answer == 0).collect());
+    group("refused 9 or 10", times.iter().filter(|t| t.answer > 8).collect());
+    group("refused 1 to 8", times.iter().filter(|t| (1..=8).contains(&t.answer)).collect());
+
+    println!("THE LARGEST GRAPHS (N = 128, E = 512, B = 500)");
+    let largest: Vec<(&str, Times)> =
+        sheets::largest().iter().map(|(name, sheet)| (*name, build(sheet))).collect();
+    for (name, times) in &largest {
+        show(name, times);
+    }
+    let yardstick =
+        largest.iter().filter(|(_, t)| t.answer == 0).map(|(_, t)| t.library).fold(0.0, f64::max);
+
+    println!("THE WORST SHEETS");
+    let names = [
+        "one chain of 511 edges",
+        "126 blocks, 63,002 copies if none stops it",
+        "C = 4,096, F = 8,189",
+        "C = 4,096, F = 8,192",
+        "F = 8,193",
+        "C = 4,097",
+    ];
+    let worst: Vec<Times> = corpus::worst().iter().map(|sheet| build(sheet)).collect();
+    for (name, times) in names.iter().zip(&worst) {
+        show(name, times);
+    }
+    let slowest = times.iter().chain(&worst).chain(largest.iter().map(|(_, t)| t)).fold(&worst[0], |a, b| {
+        if b.library > a.library {
+            b
+        } else {
+            a
+        }
+    });
+    println!(
+        "the slowest of all: {:.1} µs, {:.2} times the slowest largest graph that is accepted ({:.1} µs); to plain {:.2}, to the reference {:.2}",
+        slowest.library,
+        slowest.library / yardstick,
+        yardstick,
+        slowest.library / slowest.plain,
+        slowest.library / slowest.reference
+    );
+
+    println!("GROWTH (64 blocks: costs 50 to 95, accepted; costs 5 to 9, refused 9, so that almost all is weighing)");
+    for (edges, budget) in [(256, 125), (256, 250), (256, 375), (256, 500), (128, 250), (384, 250), (512, 250)] {
+        let product = edges as f64 * f64::from(budget);
+        let built = build(&sheets::family(edges, budget, 50, 95, 0));
+        let weighed = build(&sheets::family(edges, budget, 5, 9, 60000));
+        assert_eq!((built.answer, weighed.answer), (0, 9));
+        println!(
+            "E {edges} B {budget}: {:.1} µs and {:.1}, {:.2} and {:.2} ns for each edge and cycle",
+            built.library,
+            weighed.library,
+            built.library * 1e3 / product,
+            weighed.library * 1e3 / product
+        );
+    }
+
+    println!("MOVES");
+    let (_, sheet) = &sheets::largest()[4];
+    let mut area = vec![7; gilstavo::MOST_AREA];
+    let mut output = vec![9; gilstavo::MOST_OUTPUT];
+    assert_eq!(raw::build(sheet, &mut area, &mut output), 0);
+    let filled = 3 + 3 * usize::from(output[0]) + 2 * usize::from(output[1]);
+    let bounded = &output[..filled];
+    let start = Walk { place: 1, count: 0, end: End::Going };
+    let library = time(|| {
+        black_box(raw::monitored_move(black_box(sheet), &mut area, &mut [1, 0, 0], 1));
+    });
+    let reference = time(|| {
+        black_box(reference::monitored_move(black_box(sheet), &area, start, 1));
+    });
+    println!("a monitored move on a largest graph: {library:.1} µs, reference {reference:.1}, ratio {:.2}", library / reference);
+    let library = time(|| {
+        black_box(raw::bounded_move(black_box(bounded), &mut [1, 0, 0], 1));
+    });
+    let reference = time(|| {
+        black_box(reference::bounded_move(black_box(bounded), start, 1));
+    });
+    println!("a bounded move on its bounded sheet: {library:.1} µs, reference {reference:.1}, ratio {:.2}", library / reference);
 }

@@ -165,11 +165,11 @@ pub extern "C" fn gilstavo_monitored_move(
         ≡ monitoredMove (now (sheet .entry)) (walkIn (now (walk .entry))) (record { choice = choice; area = now (area .entry) }) .area ⌝ }
 {
     let w = walk_of(walk);
-    let m = monitored_move(sheet, area, w, choice);
-    if m.answer != 0 {
-        return m.answer;
+    let watched = monitored_move(sheet, area, w, choice);
+    if watched.answer != 0 {
+        return watched.answer;
     }
-    put_walk(walk, m.walk);
+    put_walk(walk, watched.walk);
     0
 }
 

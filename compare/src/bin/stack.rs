@@ -1,0 +1,34 @@
+// stack KB: builds the worst sheets, and the largest graphs, in a thread with so many KB of stack, and holds the answers to the reference's.
+// It rests on the wrapper and the reference's worst sheets. Too small a stack ends the process with a signal.
+
+use compare::sheets;
+use std::process::ExitCode;
+
+fn main() -> ExitCode {
+    let Some(size) = std::env::args().nth(1).and_then(|word| word.parse::<usize>().ok()) else {
+        eprintln!("usage: stack KB");
+        return ExitCode::from(2);
+    };
+    let mut sheets = reference::corpus::worst();
+    sheets.extend(sheets::largest().into_iter().map(|(_, sheet)| sheet));
+    sheets.push(sheets::deepest());
+    let mut failed = 0;
+    for sheet in sheets {
+        let wanted = reference::build(&sheet, &[7; gilstavo::MOST_AREA], &[9; gilstavo::MOST_OUTPUT]);
+        let (n, e, b) = (sheet[0], sheet[1], sheet[2]);
+        let mut area = vec![7; gilstavo::MOST_AREA];
+        let mut output = vec![9; gilstavo::MOST_OUTPUT];
+        let thread = std::thread::Builder::new().stack_size(size * 1024).spawn(move || {
+            let answer = gilstavo::raw::build(&sheet, &mut area, &mut output);
+            (answer, area, output)
+        });
+        let Ok(Ok((answer, area, output))) = thread.map(|thread| thread.join()) else {
+            println!("no thread");
+            return ExitCode::from(1);
+        };
+        let same = (answer, &area, &output) == (wanted.answer, &wanted.area, &wanted.output);
+        failed += u8::from(!same);
+        println!("N {n} E {e} B {b}: answer {answer}, {}", if same { "agrees" } else { "DIFFERS" });
+    }
+    ExitCode::from(failed.min(1))
+}

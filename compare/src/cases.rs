@@ -1,0 +1,214 @@
+// One random case of each call, given to the library and to the reference; a difference is told as text.
+// It rests on the wrapper's raw calls, and on the reference's random material and answers.
+
+use gilstavo::raw;
+use reference::random::{self, area_length, bounded_words, graph_words, length_near, Random, Size};
+use reference::{End, Monitor, Walk};
+
+/// What is counted beside the differences.
+#[derive(Default)]
+pub struct Tally {
+    pub calls: usize,
+    pub built: usize,
+    pub moves: usize,
+    pub differences: Vec<String>,
+    /// How often each number was answered, by the library.
+    pub answers: Vec<usize>,
+}
+
+impl Tally {
+    pub fn new() -> Tally {
+        Tally { answers: vec![0; 34], ..Tally::default() }
+    }
+
+    /// Notes one call: its answer, and whether everything agrees.
+    fn call<T: PartialEq + std::fmt::Debug>(&mut self, name: &str, sheet: &[u16], answer: u16, got: T, wanted: T) {
+        self.calls += 1;
+        match self.answers.get_mut(usize::from(answer)) {
+            Some(count) => *count += 1,
+            None => self.differences.push(format!("{name}: unlisted answer {answer} on {sheet:?}")),
+        }
+        if got != wanted {
+            self.differences.push(format!("{name} on {sheet:?}: {got:?}, the reference says {wanted:?}"));
+        }
+    }
+}
+
+/// Bytes that a buffer may hold before a call.
+fn junk_bytes(random: &mut Random, length: usize) -> Vec<u8> {
+    (0..length).map(|_| random.draw() as u8).collect()
+}
+
+fn junk_words(random: &mut Random, length: usize) -> Vec<u16> {
+    (0..length).map(|_| random.draw() as u16).collect()
+}
+
+/// A graph sheet: valid, damaged, at the limits, or any words at all.
+pub fn graph(random: &mut Random) -> Vec<u16> {
+    match random.below(100) {
+        0 => random::graph_near_the_limits(random),
+        1 => {
+            let length = random.below(40);
+            junk_words(random, length)
+        }
+        2..=11 => graph_words(random, Size::Any, 70),
+        12..=70 => graph_words(random, Size::Small, 70),
+        _ => graph_words(random, Size::Tiny, 60),
+    }
+}
+
+/// A walk of the reference as three words; what does not fit a word is cut to the largest.
+fn words_of(walk: Walk) -> [u16; 3] {
+    let end = match walk.end {
+        End::Going => 0,
+        End::Exit => 1,
+        End::Diverted => 2,
+    };
+    [walk.place.min(65535) as u16, walk.count.min(65535) as u16, end]
+}
+
+/// The walk that three words stand for, with an end of 0, 1 or 2.
+fn walk_of(row: [u16; 3]) -> Walk {
+    let end = match row[2] {
+        0 => End::Going,
+        1 => End::Exit,
+        _ => End::Diverted,
+    };
+    Walk { place: u32::from(row[0]), count: u32::from(row[1]), end }
+}
+
+/// The check, a count, a weighing and a build of one graph sheet. Hands back the words of a build that was accepted.
+pub fn build_case(random: &mut Random, tally: &mut Tally, sheet: &[u16]) -> Option<Vec<u16>> {
+    let answer = raw::check_graph(sheet);
+    tally.call("check_graph", sheet, answer, answer, reference::check_graph(sheet));
+
+    let blocks = sheet.first().map_or(2, |blocks| usize::from(*blocks));
+    let block = random.pick(&[0, 1, 2, 3, blocks, blocks + 1, 65535]).min(65535) as u16;
+    let (answer, count) = raw::count_successors(sheet, block);
+    tally.call("count_successors", sheet, answer, (answer, count), reference::successor_count(sheet, block));
+
+    // Buffers too short, exact and too long, with junk in them.
+    let area_size = area_length(random, sheet);
+    let area_before = junk_bytes(random, area_size);
+    let needed = match random::built_words(sheet) {
+        Some(words) => words.len(),
+        None => random.below(60),
+    };
+    let output_size = length_near(random, needed);
+    let output_before = junk_words(random, output_size);
+    let wanted = reference::build(sheet, &area_before, &output_before);
+
+    let mut area = area_before.clone();
+    let answer = raw::weigh(sheet, &mut area);
+    let weighed = if matches!(wanted.answer, 10 | 22) { 0 } else { wanted.answer };
+    tally.call("weigh", sheet, answer, (answer, &area), (weighed, &wanted.area));
+
+    let mut area = area_before;
+    let mut output = output_before;
+    let answer = raw::build(sheet, &mut area, &mut output);
+    tally.call("build", sheet, answer, (answer, &area, &output), (wanted.answer, &wanted.area, &wanted.output));
+    if answer != 0 {
+        return None;
+    }
+    tally.built += 1;
+    let filled = 3 + 3 * usize::from(output[0]) + 2 * usize::from(output[1]);
+    Some(output[..filled].to_vec())
+}
+
+/// One list of choices, given to the monitor, to monitored moves and to bounded moves on a sheet that was built.
+pub fn run_case(random: &mut Random, tally: &mut Tally, sheet: &[u16], bounded: &[u16]) {
+    let monitor = match Monitor::new(sheet) {
+        Ok(monitor) => monitor,
+        Err(_) => return,
+    };
+    let budget = u32::from(bounded[2]);
+    let needed = usize::from(sheet[0]) * (usize::from(sheet[2]) + 1);
+    let mut state = Walk::start();
+    let (mut watched, mut walked) = ([0; 3], [0; 3]);
+    raw::start(&mut watched);
+    raw::start(&mut walked);
+    let mut accepted = 0;
+    for choice in random::choices(random, sheet) {
+        let choice = choice.min(65535);
+        let longer = random.below(3);
+        let mut area = junk_bytes(random, needed + longer);
+        let (answer, after) = monitor.step(state, choice);
+        let by_graph = raw::monitored_move(sheet, &mut area, &mut watched, choice as u16);
+        let by_copies = raw::bounded_move(bounded, &mut walked, choice as u16);
+        state = after;
+        accepted += u32::from(answer == 0);
+        let block = u32::from(bounded.get(3 * usize::from(walked[0])).copied().unwrap_or(0));
+        tally.moves += 2;
+        tally.call("a list of choices, monitored moves", sheet, by_graph, (by_graph, walk_of(watched)), (answer, state));
+        let shown = Walk { place: block, ..walk_of(walked) };
+        let wanted = Walk { count: accepted, ..state };
+        tally.call("a list of choices, bounded moves", sheet, by_copies, (by_copies, shown), (answer, wanted));
+        let most = if state.end == End::Going { budget } else { budget + 1 };
+        if accepted > most {
+            tally.differences.push(format!("{accepted} moves accepted on {sheet:?}"));
+        }
+    }
+}
+
+/// A monitored move of any walk, on any graph sheet.
+pub fn monitored_case(random: &mut Random, tally: &mut Tally, sheet: &[u16]) {
+    let walk = walk_of(words_of(random::graph_walk(random, sheet)));
+    let choice = random::graph_choice(random, sheet, walk).min(65535);
+    let size = area_length(random, sheet);
+    let mut area = junk_bytes(random, size);
+    let (answer, after, area_after) = reference::monitored_move(sheet, &area, walk, choice);
+    let mut row = words_of(walk);
+    let got = raw::monitored_move(sheet, &mut area, &mut row, choice as u16);
+    tally.call("monitored_move", sheet, got, (got, row, area), (answer, words_of(after), area_after));
+}
+
+/// Rule 11, the edge words of a copy, and a bounded move of any walk, on any bounded sheet.
+pub fn bounded_case(random: &mut Random, tally: &mut Tally, sheet: &[u16]) {
+    let answer = raw::check_bounded(sheet);
+    tally.call("check_bounded", sheet, answer, answer, reference::check_bounded(sheet));
+
+    let copies = sheet.first().map_or(2, |copies| usize::from(*copies));
+    let any = random.between(1, copies);
+    let copy = random.pick(&[0, 1, 2, any, any, copies, copies + 1, 65535]).min(65535);
+    let (answer, start, size) = raw::edge_words(sheet, copy as u16);
+    let part = sheet.get(start..start + size).map(<[u16]>::to_vec);
+    let (wanted, words) = reference::edge_words(sheet, copy as u32);
+    tally.call("edge_words", sheet, answer, (answer, part), (wanted, Some(words)));
+
+    let walk = walk_of(words_of(random::bounded_walk(random, sheet)));
+    let choice = random::bounded_choice(random, sheet, walk).min(65535);
+    let (answer, after) = reference::bounded_move(sheet, walk, choice);
+    let mut row = words_of(walk);
+    let got = raw::bounded_move(sheet, &mut row, choice as u16);
+    tally.call("bounded_move", sheet, got, (got, row), (answer, words_of(after)));
+}
+
+/// Walks with an end that is none: refused 33 where the walk's turn comes, and nothing but the area is written.
+pub fn endless_case(random: &mut Random, tally: &mut Tally, sheet: &[u16], bounded: &[u16]) {
+    let row = [random.draw() as u16, random.draw() as u16, random.between(3, 65535) as u16];
+    let size = area_length(random, sheet);
+    let mut area = junk_bytes(random, size);
+    // A walk at no place is refused like one with no end.
+    let nowhere = Walk { place: 0, count: 0, end: End::Going };
+    let (answer, _, area_after) = reference::monitored_move(sheet, &area, nowhere, 1);
+    let mut walk = row;
+    let got = raw::monitored_move(sheet, &mut area, &mut walk, 1);
+    tally.call("monitored_move with no end", sheet, got, (got, walk, area), (answer, row, area_after));
+    let (answer, _) = reference::bounded_move(bounded, nowhere, 1);
+    let mut walk = row;
+    let got = raw::bounded_move(bounded, &mut walk, 1);
+    tally.call("bounded_move with no end", bounded, got, (got, walk), (answer, row));
+}
+
+/// A bounded sheet that need not come from a build: sound, damaged, or any words at all.
+pub fn any_bounded(random: &mut Random) -> Vec<u16> {
+    match random.below(100) {
+        0 => {
+            let length = random.below(40);
+            junk_words(random, length)
+        }
+        1..=5 => bounded_words(random, Size::Any, 60),
+        6..=50 => bounded_words(random, Size::Small, 50),
+        _ => bounded_words(random, Size::Tiny, 50),
+    }
+}

@@ -1,0 +1,58 @@
+// Graph sheets that are measured: the largest graphs, the deepest descent, and families that grow by one number.
+// It rests on the reference's `graph_sheet` and its random numbers.
+
+use reference::graph_sheet;
+use reference::random::Random;
+
+/// A graph of so many edges: the start's, then each block in turn gets one to the exit (3 in a hundred) or to any block from 3 on.
+fn spread(random: &mut Random, costs: Vec<u16>, start: &[u16], edges: usize, budget: u16) -> Vec<u16> {
+    let blocks = costs.len();
+    let mut successors = vec![Vec::new(); blocks];
+    successors[0] = start.to_vec();
+    for index in 0..edges - start.len() {
+        let target = if random.chance(3) { 2 } else { random.between(3, blocks) as u16 };
+        successors[2 + index % (blocks - 2)].push(target);
+    }
+    graph_sheet(&costs, &successors, budget)
+}
+
+fn costs(random: &mut Random, blocks: usize, low: usize, high: usize) -> Vec<u16> {
+    let mut costs = vec![0, 0];
+    costs.extend((2..blocks).map(|_| random.between(low, high) as u16));
+    costs
+}
+
+/// N = 128, E = 512, B = 500: two that nothing fits, so that almost all work is weighing, and three that are accepted.
+pub fn largest() -> Vec<(&'static str, Vec<u16>)> {
+    let mut random = Random::new(5);
+    let mut first_dear = |low, high| {
+        let mut costs = costs(&mut random, 128, low, high);
+        costs[2] = 60000;
+        spread(&mut random, costs, &[3], 512, 500)
+    };
+    let mut sheets = vec![
+        ("weighing, most cells set", first_dear(1, 3)),
+        ("weighing, few cells set", first_dear(20, 60)),
+    ];
+    let mut random = Random::new(6);
+    for (name, low, high) in
+        [("accepted, some copies", 60, 110), ("accepted, more copies", 50, 100), ("accepted, most copies", 45, 95)]
+    {
+        let costs = costs(&mut random, 128, low, high);
+        sheets.push((name, spread(&mut random, costs, &[3, 4, 5], 512, 500)));
+    }
+    sheets
+}
+
+/// The deepest descent: a block of cost 1 that loops, B = 500.
+pub fn deepest() -> Vec<u16> {
+    graph_sheet(&[0, 0, 1], &[vec![3], vec![], vec![3, 2]], 500)
+}
+
+/// 64 blocks of these costs with so many edges and so large a budget; nothing fits where the first block costs more than that.
+pub fn family(edges: usize, budget: u16, low: usize, high: usize, first: u16) -> Vec<u16> {
+    let mut random = Random::new(7);
+    let mut costs = costs(&mut random, 64, low, high);
+    costs[2] = costs[2].max(first);
+    spread(&mut random, costs, &[3], edges, budget)
+}

@@ -1,0 +1,95 @@
+/* The public calls of libgilstavo.a: from a claimed budget to a loadable graph.
+ *
+ * `rt staticlib gilstavo` writes target/staticlib/libgilstavo.a (x86-64, System V calling convention).
+ *
+ * A sheet is a row of 16-bit words. Every call returns, whatever the content and the length of what it is lent:
+ *
+ *   0        accepted
+ *   1        fewer than 3 words
+ *   2        N or E outside its limit (N 2 to 128, E 1 to 512)
+ *   3        not exactly 3 + 2N + 2E words
+ *   4        B above 500
+ *   5        block 1 or 2 with a cost, or another block with cost 0
+ *   6        a target that is 0, 1 or above N
+ *   7        following all chains meets an edge number above E, or an edge twice, or misses an edge
+ *   8        the exit has a chain
+ *   9        block 1 has no completion cost at or below B: nothing fits the budget
+ *   10       more than 4,096 copies or more than 8,192 edges
+ *   11       a bounded sheet that breaks a rule of its format
+ *   21       work area shorter than N * (B + 1) bytes
+ *   22       output row shorter than 3 + 3C + 2F words
+ *   31       choice 0 or beyond the place's successors
+ *   32       the walk has ended
+ *   33       walk out of shape; a block or a copy outside the sheet
+ *
+ * Where several hold, the first in the order that stands at the call is answered.
+ *
+ * What the caller owes: pointers that are not NULL (also for a length of 0) and aligned, to as many elements as the length says, and
+ * no two of them to the same memory where one of them is written. Lengths are numbers of elements: words for uint16_t, bytes for uint8_t.
+ * Nothing is kept between calls, nothing is allocated, and no call is made to anything but memset.
+ */
+#ifndef GILSTAVO_H
+#define GILSTAVO_H
+
+#include <stddef.h>
+#include <stdint.h>
+
+#ifdef __cplusplus
+extern "C" {
+#endif
+
+/* A work area of so many bytes is never answered 21, an output row of so many words never 22. */
+#define GILSTAVO_MOST_AREA 64128
+#define GILSTAVO_MOST_OUTPUT 28675
+
+/* A walk is three words: place, count, end. Any other end is out of shape (33). */
+#define GILSTAVO_PLACE 0
+#define GILSTAVO_COUNT 1
+#define GILSTAVO_END 2
+#define GILSTAVO_GOING 0
+#define GILSTAVO_EXIT 1
+#define GILSTAVO_DIVERTED 2
+
+/* Checks a graph sheet: 1 to 8, else 0. */
+uint16_t gilstavo_check_graph(const uint16_t *sheet, size_t sheet_words);
+
+/* The number of successors of a block: 1 to 8, 33, else 0. *count is the number, 0 under a refusal. */
+uint16_t gilstavo_count_successors(const uint16_t *sheet, size_t sheet_words, uint16_t block, uint16_t *count);
+
+/* Weighs a graph sheet: 1 to 8, 21, 9, else 0.
+ * Under 1 to 8 and 21 the area keeps its content. Under 9 and 0 its byte at (block - 1) * (B + 1) + cost is 1 where that block has a
+ * path to the exit of that cost, else 0, for every block and every cost up to B; the bytes behind these N * (B + 1) keep their content. */
+uint16_t gilstavo_weigh(const uint16_t *sheet, size_t sheet_words, uint8_t *area, size_t area_bytes);
+
+/* Builds the bounded sheet of a graph sheet: 1 to 8, 21, 9, 10, 22, else 0.
+ * Under 0 the first 3 + 3C + 2F words of the output row are the bounded sheet (C is its first word, F its second) and the rest keep
+ * their content; under a refusal the whole output row keeps its content. The area is left as by gilstavo_weigh: filled under every
+ * answer but 1 to 8 and 21. Takes less than 288 KB of stack (measured, docs/MEASUREMENTS.md). */
+uint16_t gilstavo_build(const uint16_t *sheet, size_t sheet_words, uint8_t *area, size_t area_bytes, uint16_t *output,
+                        size_t output_words);
+
+/* Checks a bounded sheet: 11, else 0. */
+uint16_t gilstavo_check_bounded(const uint16_t *sheet, size_t sheet_words);
+
+/* Where the edge words of one copy stand in a bounded sheet: 11, 33, else 0.
+ * They are the *size words from sheet[*start] on, two for each edge (target copy, next edge); none for the exit. Under a refusal *start
+ * and *size are 0. */
+uint16_t gilstavo_edge_words(const uint16_t *sheet, size_t sheet_words, uint16_t copy, size_t *start, size_t *size);
+
+/* Writes the starting walk: place 1, count 0, going. */
+void gilstavo_start(uint16_t walk[3]);
+
+/* Moves a walk on a graph sheet by one choice, watched by the completion costs: 1 to 8, 21, 9, 33, 32, 31, else 0.
+ * Under 0 the walk is the walk after the move; under a refusal it keeps its content. The area is left as by gilstavo_weigh. */
+uint16_t gilstavo_monitored_move(const uint16_t *sheet, size_t sheet_words, uint8_t *area, size_t area_bytes, uint16_t walk[3],
+                                 uint16_t choice);
+
+/* Moves a walk on a bounded sheet by one choice: 11, 33, 32, 31, else 0.
+ * Under 0 the walk is the walk after the move; under a refusal it keeps its content. */
+uint16_t gilstavo_bounded_move(const uint16_t *sheet, size_t sheet_words, uint16_t walk[3], uint16_t choice);
+
+#ifdef __cplusplus
+}
+#endif
+
+#endif

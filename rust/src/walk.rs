@@ -1,0 +1,62 @@
+// A walk: place, count and end, with its start and its two moves.
+// It rests on raw.rs, where a walk crosses as three words.
+
+use crate::{raw, Refusal};
+
+#[derive(Clone, Copy, PartialEq, Eq, Debug)]
+pub enum End {
+    Going,
+    Exit,
+    Diverted,
+}
+
+#[derive(Clone, Copy, PartialEq, Eq, Debug)]
+pub struct Walk {
+    pub place: u16,
+    pub count: u16,
+    pub end: End,
+}
+
+impl Walk {
+    /// The starting walk: place 1, count 0, going.
+    pub fn start() -> Walk {
+        let mut row = [0; 3];
+        raw::start(&mut row);
+        Walk::from_words(row)
+    }
+
+    fn words(self) -> [u16; 3] {
+        let end = match self.end {
+            End::Going => 0,
+            End::Exit => 1,
+            End::Diverted => 2,
+        };
+        [self.place, self.count, end]
+    }
+
+    /// A call writes no other end than 0, 1 and 2.
+    fn from_words(row: [u16; 3]) -> Walk {
+        let end = match row[2] {
+            0 => End::Going,
+            1 => End::Exit,
+            _ => End::Diverted,
+        };
+        Walk { place: row[0], count: row[1], end }
+    }
+
+    /// A move on a graph sheet, watched by its completion costs: 1 to 8, 21, 9, 33, 32, 31. The work area is as after a weighing.
+    pub fn monitored_move(&mut self, sheet: &[u16], area: &mut [u8], choice: u16) -> Result<(), Refusal> {
+        let mut row = self.words();
+        let answer = raw::monitored_move(sheet, area, &mut row, choice);
+        *self = Walk::from_words(row);
+        Refusal::from_answer(answer)
+    }
+
+    /// A move on a bounded sheet: 11, 33, 32, 31.
+    pub fn bounded_move(&mut self, sheet: &[u16], choice: u16) -> Result<(), Refusal> {
+        let mut row = self.words();
+        let answer = raw::bounded_move(sheet, &mut row, choice);
+        *self = Walk::from_words(row);
+        Refusal::from_answer(answer)
+    }
+}
