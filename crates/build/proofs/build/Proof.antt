@@ -77,12 +77,5 @@ returns-2 c =
 pub build-spec : {M : Type 1} → statement M
 build-spec =
     tie.close
-    (tie.spec
-    (λ c κs. search needs)
-    (λ c. search needs)
-    returns
-    budget-requires
-    build-weighed-requires
-    (λ c. search needs)
-    (λ c. search needs)
-    returns-2)
+    (tie.spec (λ c κs. search needs) (λ c. search needs) returns budget-requires build-weighed-requires (λ c. search needs)
+    (λ c. search needs) returns-2)

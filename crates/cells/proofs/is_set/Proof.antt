@@ -7,12 +7,10 @@ use Rattle.calls.specs.Area.{isSet, stands}
 use Rattle.cells.proofs.is_set.Statement.{statement}
 use Rattle.cells.proofs.is_set.Tie as tie
 
-is-set-at-requires : tie.Need-is-set-at-requires
-is-set-at-requires c κs = search needs
-
 returns : tie.Need-returns
 unfolding stands
 returns c = c .is-set-at .ensures ∙ ap (isSet _) (c .before .place .ensures)
 
 pub is-set-spec : {M : Type 1} → statement M
-is-set-spec = tie.close (tie.spec (λ c κs. search needs) is-set-at-requires returns)
+is-set-spec = tie.close
+    (tie.spec (λ c κs. search needs) (λ c κs. search needs) returns)

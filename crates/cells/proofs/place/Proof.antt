@@ -6,12 +6,6 @@ use Rattle.cells.proofs.Cells.{line-small, cell-code}
 use Rattle.cells.proofs.place.Statement.{statement}
 use Rattle.cells.proofs.place.Tie as tie
 
-sub-result : tie.Need-sub-result
-sub-result c = search needs
-
-add-result : tie.Need-add-result
-add-result c = search needs
-
 mul-result : tie.Need-mul-result
 mul-result c = omega (arith, line-small (c .args .b) (c .args .v) (c .pre .budget) (c .pre .block .1))
 
@@ -22,4 +16,5 @@ returns : tie.Need-returns
 returns c = cell-code _ _ _
 
 pub place-spec : {M : Type 1} → statement M
-place-spec = tie.close (tie.spec sub-result add-result mul-result add-result-2 returns)
+place-spec = tie.close
+    (tie.spec (λ c. search needs) (λ c. search needs) mul-result add-result-2 returns)

@@ -9,25 +9,10 @@ use Rattle.calls.specs.Area.{byteOf}
 use Rattle.cells.proofs.put.Statement.{statement}
 use Rattle.cells.proofs.put.Tie as tie
 
-place-requires : tie.Need-place-requires
-place-requires c κs = search needs
-
-slice-write-area : tie.Need-slice-write-area
-slice-write-area c = search needs
-
-same-length : tie.Need-same-length
-same-length c = search needs
-
 returns : tie.Need-returns
 unfolding byteOf
 returns c =
     ap₂ (λ (i : ℕ) (m : Bool). set (c .before .before .before .args .area .now) i (byteOf m)) (c .before .place .ensures) (sym (c .if1 .taken))
-
-slice-write-area-2 : tie.Need-slice-write-area-2
-slice-write-area-2 c = search needs
-
-same-length-2 : tie.Need-same-length-2
-same-length-2 c = search needs
 
 returns-2 : tie.Need-returns-2
 unfolding byteOf
@@ -36,4 +21,5 @@ returns-2 c =
 
 pub put-spec : {M : Type 1} → statement M
 put-spec =
-    tie.close (tie.spec place-requires slice-write-area same-length returns slice-write-area-2 same-length-2 returns-2)
+    tie.close
+    (tie.spec (λ c κs. search needs) (λ c. search needs) (λ c. search needs) returns (λ c. search needs) (λ c. search needs) returns-2)

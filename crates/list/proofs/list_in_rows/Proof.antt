@@ -47,15 +47,5 @@ returns-2 c =
 pub list-in-rows-spec : {M : Type 1} → statement M
 list-in-rows-spec =
     tie.close
-    (tie.spec
-    (λ c κs. search needs)
-    (λ c κs. search needs)
-    (λ c. search needs)
-    (λ c. search needs)
-    (λ c. search needs)
-    returns
-    list-built-requires
-    (λ c. search needs)
-    (λ c. search needs)
-    (λ c. search needs)
-    returns-2)
+    (tie.spec (λ c κs. search needs) (λ c κs. search needs) (λ c. search needs) (λ c. search needs) (λ c. search needs) returns
+    list-built-requires (λ c. search needs) (λ c. search needs) (λ c. search needs) returns-2)

@@ -53,9 +53,6 @@ entry-at-requires c κs =
 cast-numbers : tie.Need-cast-numbers Inv-loop μ-loop
 cast-numbers c = omega (arith, c .entry-at .ensures .1)
 
-mul-numbers : tie.Need-mul-numbers Inv-loop μ-loop
-mul-numbers c = search needs
-
 slice-write-numbers : tie.Need-slice-write-numbers Inv-loop μ-loop
 slice-write-numbers c = let G = c .before .before .before .before .loop .inv .1 in omega (arith, G .scan .cells, G .room)
 
@@ -88,5 +85,6 @@ returns c =
 pub number-spec : {M : Type 1} → statement M
 number-spec =
     tie.close
-    (tie.spec Inv-loop μ-loop cell-count-requires loop-holds is-marked-at-requires more-requires entry-at-requires cast-numbers mul-numbers
-    slice-write-numbers low-after-requires (λ c κs. search needs) add-i (λ c. search needs) loop-again same-length returns)
+    (tie.spec Inv-loop μ-loop cell-count-requires loop-holds is-marked-at-requires more-requires entry-at-requires cast-numbers
+    (λ c. search needs) slice-write-numbers low-after-requires (λ c κs. search needs) add-i (λ c. search needs) loop-again same-length
+    returns)

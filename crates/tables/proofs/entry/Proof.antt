@@ -8,15 +8,6 @@ use lib.ListN.{getD}
 use Rattle.tables.proofs.entry.Statement.{statement}
 use Rattle.tables.proofs.entry.Tie as tie
 
-place-requires : tie.Need-place-requires
-place-requires c κs = search needs
-
-mul-result : tie.Need-mul-result
-mul-result c = search needs
-
-shared-slice-read-result : tie.Need-shared-slice-read-result
-shared-slice-read-result c = search needs
-
 cast-result : tie.Need-cast-result
 cast-result c = omega (arith, c .shared-slice-known2 .given (c .before .place .result))
 
@@ -26,4 +17,5 @@ returns c =
     (ap (λ (i : ℕ). getD (z .args .row .now) i 0) (c .before .place .ensures), c .shared-slice-known2 .given (c .before .place .result) .fits)
 
 pub entry-spec : {M : Type 1} → statement M
-entry-spec = tie.close (tie.spec place-requires mul-result shared-slice-read-result cast-result returns)
+entry-spec = tie.close
+    (tie.spec (λ c κs. search needs) (λ c. search needs) (λ c. search needs) cast-result returns)

@@ -10,15 +10,10 @@ use Rattle.tables.specs.Tables.{marked}
 use Rattle.tables.proofs.is_marked.Statement.{statement}
 use Rattle.tables.proofs.is_marked.Tie as tie
 
-place-requires : tie.Need-place-requires
-place-requires c κs = search needs
-
-shared-slice-read-result : tie.Need-shared-slice-read-result
-shared-slice-read-result c = search needs
-
 returns : tie.Need-returns
 unfolding marked
 returns c = ap (λ (i : ℕ). not (eqb (getD (c .before .before .before .args .marks .now) i 0) 0)) (c .before .place .ensures)
 
 pub is-marked-spec : {M : Type 1} → statement M
-is-marked-spec = tie.close (tie.spec place-requires shared-slice-read-result returns)
+is-marked-spec = tie.close
+    (tie.spec (λ c κs. search needs) (λ c. search needs) returns)

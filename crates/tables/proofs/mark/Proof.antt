@@ -7,17 +7,9 @@ use lib.ListN.{set}
 use Rattle.tables.proofs.mark.Statement.{statement}
 use Rattle.tables.proofs.mark.Tie as tie
 
-place-requires : tie.Need-place-requires
-place-requires c κs = search needs
-
-slice-write-marks : tie.Need-slice-write-marks
-slice-write-marks c = search needs
-
-same-length : tie.Need-same-length
-same-length c = search needs
-
 returns : tie.Need-returns
 returns c = ap (λ (i : ℕ). set (c .before .before .args .marks .now) i 1) (c .place .ensures)
 
 pub mark-spec : {M : Type 1} → statement M
-mark-spec = tie.close (tie.spec place-requires slice-write-marks same-length returns)
+mark-spec = tie.close
+    (tie.spec (λ c κs. search needs) (λ c. search needs) (λ c. search needs) returns)
