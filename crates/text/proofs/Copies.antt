@@ -1,5 +1,5 @@
 -- The loop that writes the copies' lines: one turn, and its end.
--- Rests on base Lists, formats Listing, graph_check Search, specs Wrote and Texts, Due.
+-- Rests on base Lists, formats Listing, graph_check Search, digits Wrote and Due, specs Texts.
 use mathlib.Core.Path.{_≡_, sym, ap, _∙_}
 use mathlib.Core.List.{List, _++_}
 use Prim.Native.Nat.{ℕ, _+_, _≤_, _<_}
@@ -9,9 +9,9 @@ use Rattle.base.specs.Lists.{each, from}
 use Rattle.formats.specs.BoundedSheet.{heading}
 use Rattle.formats.specs.Listing.{copyLine}
 use Rattle.base.proofs.Search.{upto, upto-one, upto-more, upto-end}
-use Rattle.text.specs.Wrote.{Wrote}
+use Rattle.digits.specs.Wrote.{Wrote}
 use Rattle.text.specs.Texts.{copyLines}
-use Rattle.text.proofs.Due.{Due, due-start, due-as, due-room, due-step, due-end}
+use Rattle.digits.proofs.Due.{Due, due-start, due-as, due-room, due-step, due-end}
 
 module _ (s : List ℕ) where
   abbrev linesOf : List ℕ → List ℕ

@@ -1,7 +1,3 @@
--- what is written so far, then the rest, is the whole: wrote-then; due-start, due-room, due-step, due-end
-pub mod Due
--- decimal digits, and how many there are: decimal-one, decimal-more, digits-4
-pub mod Decimals
 -- lines, part by part: heading-is, copy-is, refusal-is
 pub mod Lines
 -- what rule 11 gives, number by number: chain-inside, block-most, low-most, target-most

@@ -1,17 +1,15 @@
 -- The lines of the texts, part by part as they are written.
--- Rests on base Lists, formats Listing, specs Texts.
-use mathlib.Core.Path.{_≡_, refl, sym, ap, _∙_}
-use mathlib.Core.List.{List, [], _∷_, _++_, map, append-assoc}
+-- Rests on formats Listing, digits Spaced and NumberLine, specs Texts.
+use mathlib.Core.Path.{_≡_, refl, ap, _∙_}
+use mathlib.Core.List.{List, [], _∷_, _++_}
 use Prim.Native.Nat.{ℕ, _+_}
 use native.Mathlib.Omega.{arith}
 use lib.ListN.{length, length-append}
-use Rattle.base.specs.Lists.{each}
 use Rattle.formats.specs.BoundedSheet.{heading, blockAt, lowAt, targetsAt}
 use Rattle.formats.specs.Listing.{decimal, line, headingLine, copyLine, refusalOf}
-use Rattle.text.specs.Texts.{spaced, targetsText}
-
-abbrev pub newlineText : List ℕ
-newlineText = 10 ∷ []
+use Rattle.digits.specs.Spaced.{spaced}
+use Rattle.digits.proofs.NumberLine.{newlineText, numbers-line}
+use Rattle.text.specs.Texts.{targetsText}
 
 -- `copies`, ` edges`, ` budget`, `refused`
 abbrev pub copiesText : List ℕ
@@ -25,13 +23,6 @@ budgetText = 32 ∷ 98 ∷ 117 ∷ 100 ∷ 103 ∷ 101 ∷ 116 ∷ []
 
 abbrev pub refusedText : List ℕ
 refusedText = 114 ∷ 101 ∷ 102 ∷ 117 ∷ 115 ∷ 101 ∷ 100 ∷ []
-
--- a line that ends with numbers
-numbers-line : (x : List ℕ) (ts : List ℕ) → line (x ∷ map decimal ts) ≡ x ++ (each spaced ts ++ newlineText)
-unfolding line each spaced
-numbers-line x [] = refl
-numbers-line x (t ∷ ts) =
-    ap (λ (w : List ℕ). x ++ (32 ∷ w)) (numbers-line (decimal t) ts ∙ sym (append-assoc (decimal t) (each spaced ts) newlineText))
 
 pub heading-is : (s : List ℕ) {c f b : ℕ} → c ≡ heading s .copies → f ≡ heading s .edges → b ≡ heading s .budget
     → headingLine s ≡ (copiesText ++ spaced c) ++ ((edgesText ++ spaced f) ++ ((budgetText ++ spaced b) ++ newlineText))

@@ -1,5 +1,5 @@
 -- How long the texts are at most: a heading 34 bytes, a copy's line 13 and 5 for each target, a refusal 14.
--- Rests on base Lists, formats Listing, specs Texts, Decimals, Lines, Kept.
+-- Rests on base Lists, formats Listing, digits Spaced and Decimals, specs Texts, Lines, Kept.
 use mathlib.Core.Path.{_≡_, refl}
 use mathlib.Core.List.{List, [], _∷_, List·Memᴰ, List·Memᴰ·head, List·Memᴰ·tail, Memᴰ·of-map}
 use Prim.Native.Nat.{ℕ, _+_, _*_, _≤_, _<_}
@@ -11,8 +11,9 @@ use Rattle.formats.specs.Limits.{mostCopies}
 use Rattle.formats.specs.BoundedSheet.{Heading, heading, blockAt, lowAt, targetAt, chainAt, targetsAt}
 use Rattle.formats.specs.Rule11.{boundedRefusal}
 use Rattle.formats.specs.Listing.{headingLine, copyLine, listingOf, refusalOf}
-use Rattle.text.specs.Texts.{listingRoom, refusalRoom, spaced, copyLines}
-use Rattle.text.proofs.Decimals.{digits-3, digits-4, digits-5}
+use Rattle.digits.specs.Spaced.{spaced}
+use Rattle.text.specs.Texts.{listingRoom, refusalRoom, copyLines}
+use Rattle.digits.proofs.Decimals.{digits-3, digits-4, digits-5}
 use Rattle.text.proofs.Lines.{copiesText, edgesText, budgetText, refusedText, heading-length, copy-length, refusal-length}
 use Rattle.text.proofs.Kept.{copies-most, edges-most, budget-most, all-edges, block-most, low-most, target-most}
 

@@ -1,5 +1,5 @@
 -- The loop that writes a copy's targets down its chain: one turn, and its ends.
--- Rests on base Lists, formats BoundedSheet, graph_check Chains, specs Wrote and Texts, Due, Kept.
+-- Rests on base Lists, formats BoundedSheet, graph_check Chains, digits Wrote, Spaced and Due, specs Texts, Kept.
 use mathlib.Core.Path.{_≡_, refl, sym, ap, subst, _∙_}
 use mathlib.Core.List.{List, [], _∷_, _++_, map, List·Memᴰ, List·Memᴰ·head, List·Memᴰ·tail}
 use Prim.Native.Nat.{ℕ, suc, _+_, _-_, _≤_, _<_}
@@ -9,9 +9,10 @@ use Rattle.formats.specs.Words.{follow}
 use Rattle.formats.specs.BoundedSheet.{Heading, heading, firstAt, targetAt, nextAt, chainAt, targetsAt}
 use Rattle.formats.specs.Rule11.{boundedRefusal}
 use Rattle.formats.proofs.Chains.{follow-end, follow-out, follow-more}
-use Rattle.text.specs.Wrote.{Wrote}
-use Rattle.text.specs.Texts.{spaced, targetsText}
-use Rattle.text.proofs.Due.{Due, due-start, due-as, due-room, due-step, due-end}
+use Rattle.digits.specs.Wrote.{Wrote}
+use Rattle.digits.specs.Spaced.{spaced}
+use Rattle.text.specs.Texts.{targetsText}
+use Rattle.digits.proofs.Due.{Due, due-start, due-as, due-room, due-step, due-end}
 use Rattle.text.proofs.Kept.{chain-inside}
 
 module _ (s : List ℕ) where

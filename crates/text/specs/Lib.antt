@@ -1,4 +1,3 @@
--- bytes written into a row: Wrote
-pub mod Wrote
--- the room that a text takes, and its parts: listingRoom, refusalRoom, spaced, targetsText, copyLines
+-- The parts of a listing's text.
+-- Rests on formats, digits.
 pub mod Texts

@@ -1,14 +1,13 @@
 // The text of a listing, written into a lent row of bytes.
-// Rests on bounded_words; the promises are equations with formats Listing.
+// Rests on bounded_words and digits; the promises are equations with formats Listing.
 ghost use mathlib.Core.Path.{_≡_};
-ghost use mathlib.Core.List.{[], _∷_, _++_};
-ghost use Prim.Native.Nat.{_+_, _<_, _≤_};
+ghost use Prim.Native.Nat.{_+_, _≤_};
 ghost use lib.ListN.{length, take};
 ghost use Rattle.formats.specs.BoundedSheet.{heading};
 ghost use Rattle.formats.specs.Rule11.{boundedRefusal};
-ghost use Rattle.formats.specs.Listing.{decimal, headingLine, copyLine, listingOf, refusalOf};
-ghost use Rattle.text.specs.Wrote.{Wrote};
-ghost use Rattle.text.specs.Texts.{listingRoom, refusalRoom, spaced, targetsText, copyLines};
+ghost use Rattle.formats.specs.Listing.{headingLine, copyLine, listingOf, refusalOf};
+ghost use Rattle.digits.specs.Wrote.{Wrote};
+ghost use Rattle.text.specs.Texts.{listingRoom, refusalRoom, targetsText, copyLines};
 use bounded_words::MOST_BOUNDED_EDGES;
 use bounded_words::MOST_COPIES;
 use bounded_words::block_at;
@@ -19,70 +18,16 @@ use bounded_words::first_at;
 use bounded_words::low_at;
 use bounded_words::next_at;
 use bounded_words::target_at;
+use digits::NEWLINE;
+use digits::put_byte;
+use digits::put_decimal;
+use digits::put_named;
+use digits::put_number;
 
 // The room that the text of any bounded sheet, and of any refusal, takes.
 pub const TEXT_SIZE: usize = 34 + 13 * MOST_COPIES + 5 * MOST_BOUNDED_EDGES;
 
 pub const REFUSAL_SIZE: usize = 14;
-
-const SPACE: u8 = 32;
-
-const NEWLINE: u8 = 10;
-
-const DIGIT_ZERO: usize = 48;
-
-// Writes one byte; the place behind it.
-fn put_byte(text: &mut [u8], at: usize, byte: u8) -> usize
-    requires { ⌜ at < length (now text) ⌝ }
-    ensures { λ r. ⌜ Wrote (now (text .entry)) at (byte ∷ []) (now (text .exit)) r ⌝ }
-{
-    text[at] = byte;
-    at + 1
-}
-
-// Writes a row of bytes.
-fn put_bytes(text: &mut [u8], at: usize, bytes: &[u8]) -> usize
-    requires { ⌜ at + length (now bytes) ≤ length (now text) ⌝ }
-    ensures { λ r. ⌜ Wrote (now (text .entry)) at (now (bytes .entry)) (now (text .exit)) r ⌝ }
-{
-    let mut p = at;
-    let mut i = 0;
-    while i < bytes.len() {
-        p = put_byte(text, p, bytes[i]);
-        i += 1;
-    }
-    p
-}
-
-// Writes a number in decimal digits: those of its tenth, then the last.
-fn put_decimal(text: &mut [u8], at: usize, n: usize) -> usize
-    requires { ⌜ at + length (decimal n) ≤ length (now text) ⌝ }
-    ensures { λ r. ⌜ Wrote (now (text .entry)) at (decimal n) (now (text .exit)) r ⌝ }
-{
-    if n < 10 {
-        return put_byte(text, at, (DIGIT_ZERO + n) as u8);
-    }
-    let p = put_decimal(text, at, n / 10);
-    put_byte(text, p, (DIGIT_ZERO + n % 10) as u8)
-}
-
-// Writes a space and a number.
-fn put_number(text: &mut [u8], at: usize, n: usize) -> usize
-    requires { ⌜ at + length (spaced n) ≤ length (now text) ⌝ }
-    ensures { λ r. ⌜ Wrote (now (text .entry)) at (spaced n) (now (text .exit)) r ⌝ }
-{
-    let p = put_byte(text, at, SPACE);
-    put_decimal(text, p, n)
-}
-
-// Writes a name, a space and a number.
-fn put_named(text: &mut [u8], at: usize, name: &[u8], n: usize) -> usize
-    requires { ⌜ at + length (now name ++ spaced n) ≤ length (now text) ⌝ }
-    ensures { λ r. ⌜ Wrote (now (text .entry)) at (now (name .entry) ++ spaced n) (now (text .exit)) r ⌝ }
-{
-    let p = put_bytes(text, at, name);
-    put_number(text, p, n)
-}
 
 // Writes the heading: C, F and B.
 fn write_heading(s: &[u16], text: &mut [u8]) -> usize

@@ -7,8 +7,9 @@ use borrow.Author.Needs.{needs}
 use lib.ListN.{length}
 use Rattle.formats.specs.Listing.{decimal, copyLine}
 use Rattle.bounded_words.proofs.Formed.{formed-of}
-use Rattle.text.specs.Texts.{spaced, targetsText}
-use Rattle.text.proofs.Due.{wrote-as, wrote-then}
+use Rattle.digits.specs.Spaced.{spaced}
+use Rattle.text.specs.Texts.{targetsText}
+use Rattle.digits.proofs.Due.{wrote-as, wrote-then}
 use Rattle.text.proofs.Lines.{copy-is, copy-length}
 use Rattle.text.proofs.write_copy.Statement.{statement}
 use Rattle.text.proofs.write_copy.Tie as tie

@@ -7,8 +7,8 @@ use native.Mathlib.Omega.{arith}
 use borrow.Author.Needs.{needs}
 use lib.ListN.{length}
 use Rattle.formats.specs.Listing.{headingLine}
-use Rattle.text.specs.Texts.{spaced}
-use Rattle.text.proofs.Due.{wrote-as, wrote-then}
+use Rattle.digits.specs.Spaced.{spaced}
+use Rattle.digits.proofs.Due.{wrote-as, wrote-then}
 use Rattle.text.proofs.Lines.{copiesText, edgesText, budgetText, heading-is, heading-length}
 use Rattle.text.proofs.write_heading.Statement.{statement}
 use Rattle.text.proofs.write_heading.Tie as tie

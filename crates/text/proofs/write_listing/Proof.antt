@@ -4,7 +4,7 @@ use native.Mathlib.Omega.{arith}
 use borrow.Author.Needs.{needs}
 use Rattle.formats.specs.Listing.{listingOf}
 use Rattle.bounded_words.proofs.Formed.{formed-of}
-use Rattle.text.proofs.Due.{wrote-then}
+use Rattle.digits.proofs.Due.{wrote-then}
 use Rattle.text.proofs.Room.{listing-fits, listing-length}
 use Rattle.text.proofs.write_listing.Statement.{statement}
 use Rattle.text.proofs.write_listing.Tie as tie

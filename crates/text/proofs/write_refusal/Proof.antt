@@ -3,7 +3,7 @@
 use mathlib.Core.Path.{sym}
 use native.Mathlib.Omega.{arith}
 use borrow.Author.Needs.{needs}
-use Rattle.text.proofs.Due.{wrote-as, wrote-then}
+use Rattle.digits.proofs.Due.{wrote-as, wrote-then}
 use Rattle.text.proofs.Lines.{refusal-is, refusal-length}
 use Rattle.text.proofs.Room.{refusal-fits}
 use Rattle.text.proofs.write_refusal.Statement.{statement}

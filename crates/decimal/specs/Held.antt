@@ -1,0 +1,34 @@
+-- What the numbers with which a text is read, and the row of bytes, hold of what has been read.
+-- Rests on formats Limits, Reading, Bytes.
+use mathlib.Core.Path.{_≡_}
+use mathlib.Core.Bool.{true, false}
+use mathlib.Core.List.{List}
+use Prim.Native.Nat.{ℕ, suc, _<_, _≤_}
+use lib.Dec.{eqb, ltb}
+use lib.ListN.{take}
+use Rattle.formats.specs.Limits.{wordLimit}
+use Rattle.decimal.specs.declared.Reading.{Reading}
+use Rattle.decimal.specs.Reading.{Mode, between, within, comment, Read}
+use Rattle.decimal.specs.Bytes.{bytesOf}
+
+-- the longest text
+abbrev pub textLimit : ℕ
+textLimit = 262144
+
+-- a mode by its number: a word's value so far, then one number between words and one in a comment
+unfoldable pub modeOf : ℕ → Mode
+modeOf m = elim (ltb m wordLimit) [ true ↦ within m | false ↦ elim (eqb m wordLimit) [ true ↦ between | false ↦ comment ] ]
+
+-- after i bytes of a text r has been read, and its words stand at the front of the row; a finished word took two bytes of the text at least
+pub record Holds (i : ℕ) (r : Read) (row : List ℕ) (s : Reading) : Type 0 where
+  pub front : take (s .size) row ≡ bytesOf (r .words)
+  pub is-line : s .line ≡ r .line
+  pub is-mode : modeOf (s .mode) ≡ r .mode
+  pub is-fault : s .fault ≡ r .fault
+  pub lines : s .line ≤ suc i
+  pub most : s .size ≤ i
+  pub room : s .mode < wordLimit → suc (s .size) ≤ i
+
+-- one byte more, of which f says what it makes of what has been read
+abbrev pub Turns : (Read → Read) → List ℕ → Reading → List ℕ → Reading → Type 0
+Turns f old s new t = (i : ℕ) (r : Read) → Holds i r old s → Holds (suc i) (f r) new t

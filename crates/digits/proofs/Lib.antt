@@ -1,0 +1,6 @@
+-- what is written so far, then the rest, is the whole: wrote-then; due-start, due-room, due-step, due-end
+pub mod Due
+-- decimal digits, and how many there are: decimal-one, decimal-more, digits-4
+pub mod Decimals
+-- a line of numbers, part by part: numbers-line
+pub mod NumberLine

@@ -1,0 +1,30 @@
+// Standard input to its end: whether its number of bytes is odd.
+// Rests on io; no contract can say what is read.
+use libc::STDIN_FILENO;
+ghost use Prim.Native.Nat.{_≤_};
+
+// Reads once, and answers how many bytes came.
+fn read_some() -> usize
+    ensures { λ r. ⌜ r ≤ 4096 ⌝ }
+{
+    let mut space = io::buffer();
+    let got = libc::read(STDIN_FILENO, &mut space);
+    io::count(got, &space)
+}
+
+// Reads to the end, and answers whether the number of bytes with those before was odd.
+pub fn odd_at_the_end(before: bool) -> bool {
+    let mut odd = before;
+    let mut turns = u64::MAX;
+    while turns > 0 {
+        let n = read_some();
+        if n == 0 {
+            return odd;
+        }
+        if n % 2 == 1 {
+            odd = !odd;
+        }
+        turns -= 1;
+    }
+    odd
+}
