@@ -9,7 +9,7 @@ use mathlib.Core.Option.{Option, some, none, Option·map, Option·none-ne-some, 
 use Prim.Native.Nat.{ℕ, zero, suc, _+_, _≤_, _<_}
 use native.Mathlib.Omega.{arith}
 use native.Mathlib.Decide.{ℕ-discrete}
-use lib.ListN.{length}
+use lib.ListN.{length, take}
 use Rattle.base.specs.Lists.{each, keep, chosen, from}
 use Rattle.base.proofs.Truth.{not-both}
 
@@ -212,3 +212,10 @@ distinct-part f [] d m = absurd (List·Memᴰ·not-nil m)
 distinct-part {A} f (x ∷ xs) d m =
     ⊎-elim (λ e. subst (λ (z : A). Distinct (f z)) (sym e) (distinct-front (f x) (each f xs) d))
     (λ n. distinct-part f xs (distinct-back (f x) (each f xs) d) n) (List·Memᴰ·cases-cons m)
+
+-- the first n are at most n
+pub take-most : {A : Type 0} (n m : ℕ) (xs : List A) → n ≤ m → length (take n xs) ≤ m
+take-most zero m xs l = omega arith
+take-most (suc n) m [] l = omega arith
+take-most (suc n) zero (x ∷ xs) l = absurd (omega arith)
+take-most (suc n) (suc m) (x ∷ xs) l = let h = take-most n m xs (omega arith) in omega arith

@@ -1,2 +1,2 @@
--- the length of a part: part-count, part-most
+-- the length of a part: part-count
 pub mod Parts

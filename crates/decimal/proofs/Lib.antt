@@ -20,5 +20,5 @@ pub mod Files
 pub mod RoundTrip
 -- sample texts and rows, by computing: read-as, written-as
 pub mod Samples
--- for the programs, the length of a part and of a row of zeros: part-most, zeros-room
+-- for the programs, the length of a row of zeros: zeros-room
 pub mod Parts

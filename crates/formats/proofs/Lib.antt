@@ -6,6 +6,7 @@ pub mod Accepted
 pub mod Reading
 -- rule 11, clause by clause, is that a sheet is written from rows that fit: fits-rule; rule11
 pub mod RuleKept
+pub mod RuleWords
 pub mod RuleRead
 -- every word of such a sheet fits 16 bits: words-fit
 pub mod WordsFit

@@ -1,9 +1,9 @@
 -- A sheet that keeps rule 11 is written from rows that fit; so the rule, clause by clause, is that there are such rows.
--- Rests on base Truth, Copies and Orders, Reading, RuleKept.
+-- Rests on base Truth, Copies and Orders, Reading, RuleKept, RuleWords.
 use mathlib.Core.Path.{_≡_, refl, sym, ap, ap₂, subst, _∙_}
 use mathlib.Core.Logic.{_≢_, _↔_, ⊎-elim}
 use mathlib.Core.Bool.{Bool, true, false, _&&_, not}
-use mathlib.Core.List.{List, [], _∷_, _++_, map, append-assoc, append-nil, List·Memᴰ, List·Memᴰ·head, List·Memᴰ·not-nil}
+use mathlib.Core.List.{List, [], _∷_, _++_, map, append-nil, List·Memᴰ, List·Memᴰ·head, List·Memᴰ·not-nil}
 use mathlib.Core.List.{List·Memᴰ·cases-cons}
 use mathlib.Core.List.{List·Memᴰ·eq-of-singleton, Memᴰ·of-map}
 use mathlib.Core.Option.{Option, some, none, Option·map, Option·none-ne-some, Option·some-injective}
@@ -12,22 +12,23 @@ use native.Mathlib.Omega.{arith}
 use borrow.Author.Tests.{eq-eqb, ne-eqb, eqb-true, ltb-false, not-false}
 use lib.Dec.{eqb, ltb}
 use lib.ListN.{length, take, drop, take-append-drop, length-map}
-use lib.Seq.{drop-cons, drop-length, drop-at, length-take-le}
+use lib.Seq.{drop-length, drop-at, length-take-le}
 use Rattle.base.specs.Lists.{each, from, chosen, equal}
 use Rattle.base.specs.Copy.{Copy, before}
 use Rattle.base.proofs.Truth.{and-e, or-false, any-false}
 use Rattle.base.proofs.Lists.{each-i, keep-i, keep-e, from-i, from-e, from-length, chosen-map, chosen-le, chosen-some}
 use Rattle.base.proofs.Copies.{Rising, before-trans}
 use Rattle.formats.specs.Limits.{mostBlocks, mostBudget, leastCopies, mostCopies, leastBoundedEdges, mostBoundedEdges}
-use Rattle.formats.specs.Words.{word, follow}
+use Rattle.formats.specs.Words.{follow}
 use Rattle.base.specs.Checks.{outside}
-use Rattle.formats.specs.BoundedSheet.{Row, firstEdge, edgeRecords, copyWords, edgeWords, edgeCount, sheetWords, Heading, heading}
+use Rattle.formats.specs.BoundedSheet.{Row, copyWords, edgeWords, sheetWords, Heading, heading}
 use Rattle.formats.specs.BoundedSheet.{blockAt, lowAt, firstAt, targetAt, nextAt, copyAt, chainAt, targetsAt}
 use Rattle.formats.specs.Rule11.{tooShort, badLimits, wrongLength, largeBudget, badBlocks, badLows, badCopyOrder, copiesOf}
 use Rattle.formats.specs.Rule11.{notOneOf, badExit, badEdgeOrder, badTargetWords, boundedOrder, boundedRefusal}
 use Rattle.base.proofs.Orders.{unrefused, inside-of}
 use Rattle.formats.proofs.Reading.{Laid, edgePlace}
 use Rattle.formats.proofs.RuleKept.{RowFits, Once, RowsFit, Fits, RecordClauses, fits-rule}
+use Rattle.formats.proofs.RuleWords.{three-words, rowAt, rows, CopiesWere, copies-were}
 
 -- the clauses behind the header
 pub record Clauses (s : List ℕ) : Type 0 where
@@ -55,112 +56,6 @@ clauses s e =
     let R : RecordClauses (heading s) s
     = record { size = c .0; blocks = f .0; lows = g .0; order = h .0; two = j .0; exit = k .0; edges = l .0; targets = m .0 } in
     record { long = a .0; limits = b .0; budget = d .0; one = i .0; records = R }
-
--- WORDS FROM A PLACE ON
-
-two-words : (s : List ℕ) (n : ℕ) → n + 2 ≤ length s → drop n s ≡ word s n ∷ word s (n + 1) ∷ drop (n + 2) s
-two-words s n l =
-    let p : n + 1 ≡ suc n = omega arith in
-    let q : n + 2 ≡ suc (suc n) = omega arith in
-    rw (p, q) (drop-cons s n 0 (omega arith) ∙ ap (λ (l : List ℕ). word s n ∷ l) (drop-cons s (suc n) 0 (omega arith)))
-
-three-words : (s : List ℕ) (n : ℕ) → n + 3 ≤ length s → drop n s ≡ word s n ∷ word s (n + 1) ∷ word s (n + 2) ∷ drop (n + 3) s
-three-words s n l =
-    let q : n + 2 ≡ suc (suc n) = omega arith in
-    let r : n + 3 ≡ suc (suc (suc n)) = omega arith in
-    two-words s n (omega arith) ∙ ap (λ (l : List ℕ). word s n ∷ word s (n + 1) ∷ l) (rw (q, r) (drop-cons s (suc (suc n)) 0 (omega arith)))
-
--- consecutive numbers fall apart into consecutive numbers
-record Parts (a m : ℕ) (xs ys : List ℕ) : Type 0 where
-  left : xs ≡ from a (length xs)
-  right : ys ≡ from (a + length xs) (m - length xs)
-  within : length xs ≤ m
-
-parts : (xs ys : List ℕ) (a m : ℕ) → xs ++ ys ≡ from a m → Parts a m xs ys
-unfolding from
-parts [] ys a m e =
-    let p : a + 0 ≡ a = omega arith in
-    let q : m - 0 ≡ m = omega arith in
-    record { left = refl; right = rw (p, q) e; within = omega arith }
-parts (x ∷ xs) ys a zero e = absurd (let z : _≡_ {A = ℕ} 0 1 = cc in omega arith)
-parts (x ∷ xs) ys a (suc m) e =
-    let p : x ≡ a = cc in
-    let q : xs ++ ys ≡ from (suc a) m = cc in
-    let r = parts xs ys (suc a) m q in
-    let u : a + suc (length xs) ≡ suc a + length xs = omega arith in
-    let v : suc m - suc (length xs) ≡ m - length xs = omega arith in
-    record { left = ap₂ (λ y l. y ∷ l) p (r .left); right = rw (u, v) (r .right); within = omega (arith, r .within) }
-
-module _ (h : Heading) (s : List ℕ) where
-  -- a copy and the words of its targets, as the sheet has them
-  unfoldable pub rowAt : ℕ → Row
-  rowAt i = record { copy = copyAt h s i; targetWords = targetsAt h s i }
-
-  unfoldable pub rows : List Row
-  rows = map rowAt (from 1 (h .copies))
-
-  -- a chain of following numbers was written from its targets
-  record ChainWas (x e n : ℕ) : Type 0 where
-    first : x ≡ firstEdge (suc e) (map (targetAt h s) (from (suc e) n))
-    words : drop (edgePlace h s (suc e)) s
-        ≡ edgeRecords (suc e) (map (targetAt h s) (from (suc e) n)) ++ drop (edgePlace h s (suc e) + 2 * n) s
-
-  chain-was : (n k x e : ℕ) → n < k → follow (nextAt h s) k x ≡ from (suc e) n → edgePlace h s (suc e) + 2 * n ≤ length s → ChainWas x e n
-  unfolding follow from firstEdge edgeRecords targetAt nextAt
-  chain-was n zero x e l q r = absurd (omega arith)
-  chain-was zero (suc k) zero e l q r =
-      let p : edgePlace h s (suc e) + 2 * 0 ≡ edgePlace h s (suc e) = omega arith in record { first = refl; words = rw p }
-  chain-was zero (suc k) (suc x) e l q r = absurd (let z : _≡_ {A = ℕ} 0 1 = cc in omega arith)
-  chain-was (suc n) (suc k) zero e l q r = absurd (let z : _≡_ {A = ℕ} 0 1 = cc in omega arith)
-  chain-was (suc n) (suc k) (suc x) e l q r =
-      let p : suc x ≡ suc e = cc in
-      let t : follow (nextAt h s) k (nextAt h s (suc x)) ≡ from (suc (suc e)) n = cc in
-      let a : edgePlace h s (suc (suc e)) ≡ edgePlace h s (suc e) + 2 = omega arith in
-      let b : edgePlace h s (suc e) + 2 * suc n ≡ edgePlace h s (suc (suc e)) + 2 * n = omega arith in
-      let w = chain-was n k (nextAt h s (suc e)) (suc e) (omega arith)
-      (subst (λ (y : ℕ). follow (nextAt h s) k (nextAt h s y) ≡ from (suc (suc e)) n) p t) (omega arith) in
-      record {
-        first = p;
-        words = two-words s (edgePlace h s (suc e)) (omega arith)
-            ∙ ap₂ (λ y l. targetAt h s (suc e) ∷ y ∷ l) (w .first) (rw (b, ← a) (w .words));
-      }
-
-  -- copies whose chains are consecutive were written from their rows
-  record CopiesWere (k i e m : ℕ) : Type 0 where
-    copies : drop (h .records + 3 * (i - 1)) s ≡ copyWords (suc e) (map rowAt (from i k)) ++ drop (h .records + 3 * (i - 1) + 3 * k) s
-    edges : drop (edgePlace h s (suc e)) s ≡ edgeWords (suc e) (map rowAt (from i k)) ++ drop (edgePlace h s (suc e) + 2 * m) s
-    number : edgeCount (map rowAt (from i k)) ≡ m
-
-  copies-were : (k i e m : ℕ) → 1 ≤ i → each (chainAt h s) (from i k) ≡ from (suc e) m → m ≤ h .edges
-      → h .records + 3 * (i - 1) + 3 * k ≤ length s → edgePlace h s (suc e) + 2 * m ≤ length s → CopiesWere k i e m
-  unfolding each from copyWords edgeWords edgeCount rowAt copyAt targetsAt chainAt blockAt lowAt firstAt
-  copies-were zero i e zero l q f r t =
-      let a : h .records + 3 * (i - 1) + 3 * 0 ≡ h .records + 3 * (i - 1) = omega arith in
-      let b : edgePlace h s (suc e) + 2 * 0 ≡ edgePlace h s (suc e) = omega arith in
-      record { copies = rw a; edges = rw b; number = refl }
-  copies-were zero i e (suc m) l q f r t = absurd (let z : _≡_ {A = ℕ} 0 1 = cc in omega arith)
-  copies-were (suc k) i e m l q f r t =
-      let p = parts (chainAt h s i) (each (chainAt h s) (from (suc i) k)) (suc e) m q in
-      let n = length (chainAt h s i) in
-      let c = chain-was n (suc (h .edges)) (firstAt h s i) e (omega (arith, p .within)) (p .left) (omega (arith, p .within)) in
-      let ts : targetsAt h s i ≡ map (targetAt h s) (from (suc e) n) = ap (map (targetAt h s)) (p .left) in
-      let len : length (targetsAt h s i) ≡ n = length-map (chainAt h s i) (targetAt h s) in
-      let x : suc e + n ≡ suc (e + n) = omega arith in
-      let w = copies-were k (suc i) (e + n) (m - n) (omega arith) (rw x at (p .right)) (omega arith) (omega arith)
-      (omega (arith, p .within)) in
-      let a₁ : h .records + 3 * (i - 1) + 3 ≡ h .records + 3 * (suc i - 1) = omega arith in
-      let a₂ : h .records + 3 * (i - 1) + 3 * suc k ≡ h .records + 3 * (suc i - 1) + 3 * k = omega arith in
-      let b₁ : edgePlace h s (suc e) + 2 * n ≡ edgePlace h s (suc (e + n)) = omega arith in
-      let b₂ : edgePlace h s (suc e) + 2 * m ≡ edgePlace h s (suc (e + n)) + 2 * (m - n) = omega (arith, p .within) in
-      let y : suc e + length (targetsAt h s i) ≡ suc (e + n) = omega arith in
-      record {
-        copies = three-words s (h .records + 3 * (i - 1)) (omega arith)
-            ∙ ap₂ (λ y l. blockAt h s i ∷ lowAt h s i ∷ y ∷ l) (c .first ∙ ap (firstEdge (suc e)) (sym ts)) (rw (a₁, a₂, y) (w .copies));
-        edges =
-            c .words ∙ ap₂ (λ x l. edgeRecords (suc e) x ++ l) (sym ts) (rw (b₁, b₂, y) (w .edges))
-            ∙ sym (append-assoc (edgeRecords (suc e) (targetsAt h s i)) _ _);
-        number = omega (arith, w .number, p .within);
-      }
 
 -- copies each of which stands before the next rise
 rising-from : (f : ℕ → Copy) (k n : ℕ) → ((i : ℕ) → n ≤ i → suc i < n + k → before (f i) (f (suc i)) ≡ true) → Rising (map f (from n k))

@@ -15,7 +15,8 @@ use Rattle.formats.specs.BoundedSheet.{heading, firstAt, targetAt, nextAt, chai
 use Rattle.formats.specs.Rule11.{boundedRefusal}
 use Rattle.formats.proofs.Accepted.{accepted, edge-inside}
 use Rattle.formats.proofs.Reading.{met}
-use Rattle.formats.proofs.RuleRead.{clauses, rows, laid-out}
+use Rattle.formats.proofs.RuleWords.{rows}
+use Rattle.formats.proofs.RuleRead.{clauses, laid-out}
 use Rattle.calls.specs.SheetGraph.{graph}
 use Rattle.graph_words.proofs.Formed as Graph
 use Rattle.bounded_words.proofs.Formed as Bounded

@@ -10,7 +10,8 @@ use Rattle.base.proofs.Lists.{each-i, from-i, from-e}
 use Rattle.formats.specs.BoundedSheet.{heading, firstAt, nextAt, targetAt, chainAt, targetsAt, partStart, edgePart}
 use Rattle.formats.specs.Rule11.{boundedRefusal}
 use Rattle.formats.proofs.Reading.{edgeRecords-length, met}
-use Rattle.formats.proofs.RuleRead.{clauses, rows, laid-out}
+use Rattle.formats.proofs.RuleWords.{rows}
+use Rattle.formats.proofs.RuleRead.{clauses, laid-out}
 use Rattle.formats.proofs.Parts.{part-of}
 use Rattle.formats.proofs.Chains.{follow-end, follow-out, follow-more}
 use Rattle.bounded_words.proofs.Formed.{formed-of}

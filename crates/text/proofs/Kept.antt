@@ -17,7 +17,8 @@ use Rattle.formats.specs.Limits.{mostBlocks, mostBudget, mostCopies, mostBounde
 use Rattle.formats.specs.BoundedSheet.{Heading, heading, blockAt, lowAt, targetAt, chainAt}
 use Rattle.formats.specs.Rule11.{largeBudget, badBlocks, badLows, badTargetWords, boundedRefusal}
 use Rattle.formats.proofs.Reading.{met}
-use Rattle.formats.proofs.RuleRead.{Clauses, clauses, limits-of, rows, laid-out}
+use Rattle.formats.proofs.RuleWords.{rows}
+use Rattle.formats.proofs.RuleRead.{Clauses, clauses, limits-of, laid-out}
 
 module _ (s : List ℕ) (ok : boundedRefusal s ≡ 0) where
   abbrev h : Heading

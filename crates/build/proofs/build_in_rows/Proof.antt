@@ -33,10 +33,14 @@ write-numbered-requires c κs =
     let f = c .before .before .before .before .before .before .before .before .before .before .before .before .before in
     let z = f .before .before .before .before .before .before .before .before .before in
     let e = f .find-copies .ensures .1 .1 in
-    (z .pre .0, (z .pre .1 .0 .0, (e .1 (omega arith), (n .1 .1, (n .0, ((omega (arith, e .0), omega (arith, e .0)), z .pre .1 .1 .1 .1 .1))))))
+    let p = z .pre .1 in
+    (z .pre .0, (p .0 .0, (e .1 (omega arith), (n .1 .1, (n .0, ((omega (arith, e .0), omega (arith, e .0)), p .1 .1 .1 .1))))))
+
+find-copies-requires : tie.Need-find-copies-requires
+find-copies-requires c κs = c .before .before .before .before .before .before .before .before .pre
 
 pub build-in-rows-spec : {M : Type 1} → statement M
 build-in-rows-spec =
     tie.close
-    (tie.spec (λ c κs. c .before .before .before .before .before .before .before .before .pre) (λ c. search needs) (λ c. search needs) returns (λ c. search needs) sub-edges number-requires
+    (tie.spec find-copies-requires (λ c. search needs) (λ c. search needs) returns (λ c. search needs) sub-edges number-requires
     write-numbered-requires (λ c. search needs) (λ c. search needs) (λ c. search needs) (λ c. c .before .before .write-numbered .ensures))

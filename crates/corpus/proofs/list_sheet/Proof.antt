@@ -5,7 +5,8 @@ use native.Mathlib.Omega.{arith}
 use borrow.Author.Needs.{needs}
 use lib.ListN.{length-append}
 use Rattle.file_words.specs.Longer.{longerFile}
-use Rattle.corpus.proofs.Parts.{part-count, part-most}
+use Rattle.base.proofs.Lists.{take-most}
+use Rattle.corpus.proofs.Parts.{part-count}
 use Rattle.corpus.proofs.list_sheet.Statement.{statement}
 use Rattle.corpus.proofs.list_sheet.Tie as tie
 
@@ -19,7 +20,7 @@ list-file-requires : tie.Need-list-file-requires
 list-file-requires c κs =
     let n = c .before .before .before .before .before .read-full .result in
     let l : n ≤ longerFile = omega arith in
-    (part-most n longerFile _ l, search needs)
+    (take-most n longerFile _ l, search needs)
 
 slice-aggregate-write-all : tie.Need-slice-aggregate-write-all
 slice-aggregate-write-all c = part-count _ _ (omega (arith, c .before .before .before .before .list-file .ensures .0))

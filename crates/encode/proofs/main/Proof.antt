@@ -4,14 +4,15 @@ use mathlib.Core.Path.{sym}
 use native.Mathlib.Omega.{arith}
 use borrow.Author.Needs.{needs}
 use lib.Seq.{length-take-le}
-use Rattle.decimal.proofs.Parts.{part-most, zeros-room}
+use Rattle.base.proofs.Lists.{take-most}
+use Rattle.decimal.proofs.Parts.{zeros-room}
 use Rattle.encode.proofs.main.Statement.{statement}
 use Rattle.encode.proofs.main.Tie as tie
 
 encode-requires : tie.Need-encode-requires
 encode-requires c κs =
     let read = c .before .before .before .before .read-full in
-    let most = part-most (read .result) 262144 (read .last .1 .0) (c .before .before .if1 .left) in
+    let most = take-most (read .result) 262144 (read .last .1 .0) (c .before .before .if1 .left) in
     (most, zeros-room 262145 _ (omega arith))
 
 slice-aggregate-write-all-2 : tie.Need-slice-aggregate-write-all-2
