@@ -1,7 +1,8 @@
 // measure: the library's times beside the reference's and the plain build's, same inputs, one run.
 // It rests on the wrapper, plain.rs, sheets.rs and the reference; every answer, area and output is held to the reference's first.
 //
-// A time is the least of 7 rounds, each the mean of as many calls as take about 2 ms. The buffers are not cleared between calls.
+// A time is the least of 9 rounds, each the mean of as many calls as take about 1 ms; in a round the three are timed one after the other.
+// The buffers are not cleared between calls.
 
 use compare::{plain, sheets};
 use gilstavo::raw;
@@ -9,21 +10,30 @@ use reference::{corpus, End, Walk};
 use std::hint::black_box;
 use std::time::Instant;
 
-/// Microseconds of one call.
-fn time(mut call: impl FnMut()) -> f64 {
+const ROUNDS: usize = 9;
+
+/// How many calls take about 1 ms.
+fn calls_of(call: &mut dyn FnMut()) -> usize {
     let began = Instant::now();
     call();
     let once = began.elapsed().as_secs_f64().max(1e-8);
-    let calls = ((2e-3 / once) as usize).clamp(1, 10000);
-    let mut least = f64::MAX;
-    for _ in 0..7 {
-        let began = Instant::now();
-        for _ in 0..calls {
-            call();
+    ((1e-3 / once) as usize).clamp(1, 10000)
+}
+
+/// Microseconds of one call of each, measured in turn, round by round.
+fn timed(calls: &mut [&mut dyn FnMut()]) -> Vec<f64> {
+    let counts: Vec<usize> = calls.iter_mut().map(|call| calls_of(call)).collect();
+    let mut least = vec![f64::MAX; calls.len()];
+    for _ in 0..ROUNDS {
+        for (index, call) in calls.iter_mut().enumerate() {
+            let began = Instant::now();
+            for _ in 0..counts[index] {
+                call();
+            }
+            least[index] = least[index].min(began.elapsed().as_secs_f64() / counts[index] as f64);
         }
-        least = least.min(began.elapsed().as_secs_f64() / calls as f64);
     }
-    least * 1e6
+    least.iter().map(|seconds| seconds * 1e6).collect()
 }
 
 struct Times {
@@ -46,16 +56,19 @@ fn build(sheet: &[u16]) -> Times {
     assert_eq!((answer, &area, &output), (wanted.answer, &wanted.area, &wanted.output), "{sheet:?}");
     assert_eq!((other, &other_area, &other_output), (wanted.answer, &wanted.area, &wanted.output), "{sheet:?}");
     let (copies, edges) = if answer == 0 { (output[0], output[1]) } else { (0, 0) };
-    let library = time(|| {
-        black_box(raw::build(black_box(sheet), &mut area, &mut output));
-    });
-    let plain = time(|| {
-        black_box(plain::build(black_box(sheet), &mut area, &mut output));
-    });
-    let reference = time(|| {
-        black_box(reference::build(black_box(sheet), &area, &output));
-    });
-    Times { answer, copies, edges, library, plain, reference }
+    let (kept_area, kept_output) = (area.clone(), output.clone());
+    let took = timed(&mut [
+        &mut || {
+            black_box(raw::build(black_box(sheet), &mut area, &mut output));
+        },
+        &mut || {
+            black_box(plain::build(black_box(sheet), &mut other_area, &mut other_output));
+        },
+        &mut || {
+            black_box(reference::build(black_box(sheet), &kept_area, &kept_output));
+        },
+    ]);
+    Times { answer, copies, edges, library: took[0], plain: took[1], reference: took[2] }
 }
 
 fn show(name: &str, t: &Times) {
@@ -154,18 +167,21 @@ fn main() {
     let filled = 3 + 3 * usize::from(output[0]) + 2 * usize::from(output[1]);
     let bounded = &output[..filled];
     let start = Walk { place: 1, count: 0, end: End::Going };
-    let library = time(|| {
-        black_box(raw::monitored_move(black_box(sheet), &mut area, &mut [1, 0, 0], 1));
-    });
-    let reference = time(|| {
-        black_box(reference::monitored_move(black_box(sheet), &area, start, 1));
-    });
-    println!("a monitored move on a largest graph: {library:.1} µs, reference {reference:.1}, ratio {:.2}", library / reference);
-    let library = time(|| {
-        black_box(raw::bounded_move(black_box(bounded), &mut [1, 0, 0], 1));
-    });
-    let reference = time(|| {
-        black_box(reference::bounded_move(black_box(bounded), start, 1));
-    });
-    println!("a bounded move on its bounded sheet: {library:.1} µs, reference {reference:.1}, ratio {:.2}", library / reference);
+    let kept_area = area.clone();
+    let took = timed(&mut [
+        &mut || {
+            black_box(raw::monitored_move(black_box(sheet), &mut area, &mut [1, 0, 0], 1));
+        },
+        &mut || {
+            black_box(reference::monitored_move(black_box(sheet), &kept_area, start, 1));
+        },
+        &mut || {
+            black_box(raw::bounded_move(black_box(bounded), &mut [1, 0, 0], 1));
+        },
+        &mut || {
+            black_box(reference::bounded_move(black_box(bounded), start, 1));
+        },
+    ]);
+    println!("a monitored move on a largest graph: {:.1} µs, reference {:.1}, ratio {:.2}", took[0], took[1], took[0] / took[1]);
+    println!("a bounded move on its bounded sheet: {:.1} µs, reference {:.1}, ratio {:.2}", took[2], took[3], took[2] / took[3]);
 }
