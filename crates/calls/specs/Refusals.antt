@@ -22,6 +22,8 @@ refusals =
       buildOf (record { sheet = least; area = replicate 3 7; output = replicate 12 9 }),
       0 ∷ 1 ∷ 1 ∷ 7 ∷ 2 ∷ 1 ∷ 0 ∷ 1 ∷ 0 ∷ 1 ∷ 2 ∷ 0 ∷ 0 ∷ 2 ∷ 0 ∷ 9 ∷ [],
     )
+    -- 1: the area keeps its content, also where it has room for a header of one word
+    ∷ (buildOf (record { sheet = 2 ∷ []; area = replicate 3 7; output = 9 ∷ [] }), 1 ∷ 7 ∷ 7 ∷ 7 ∷ 9 ∷ [])
     -- 8 before 21: the area keeps its content; 21 before 9 and 22; 9 before 22, 22: the area is filled, the output stays
     ∷ (buildOf (record { sheet = 2 ∷ 1 ∷ 0 ∷ 0 ∷ 0 ∷ 0 ∷ 1 ∷ 2 ∷ 0 ∷ []; area = 7 ∷ []; output = 9 ∷ [] }), 8 ∷ 7 ∷ 9 ∷ [])
     ∷ (

@@ -8,7 +8,7 @@ pub mod Reading
 pub mod RuleKept
 pub mod RuleWords
 pub mod RuleRead
--- every word of such a sheet fits 16 bits: words-fit
+-- every word of such a sheet fits 16 bits: words-fit; two-bytes
 pub mod WordsFit
 -- the edge words handed out are those of the copy's chain: handed-out
 pub mod Parts

@@ -10,8 +10,14 @@ use native.Mathlib.Decide.{ℕ-discrete}
 use lib.ListN.{length}
 use Rattle.base.proofs.Lists.{choice-of}
 use Rattle.formats.specs.Limits.{mostBoundedEdges, wordLimit}
+use Rattle.formats.specs.File.{wordOf}
 use Rattle.formats.specs.BoundedSheet.{Row, firstEdge, edgeRecords, copyWords, edgeWords, edgeCount, sheetWords}
 use Rattle.formats.proofs.RuleKept.{RowFits, Fits}
+
+-- the largest word is that of two bytes 255
+pub two-bytes : suc (wordOf (255 ∷ 255 ∷ []) 0) ≡ wordLimit
+unfolding wordOf
+two-bytes = refl
 
 -- words that are all at most M
 module _ (M : ℕ) where
