@@ -53,7 +53,7 @@ extern "C" {
 /* Checks a graph sheet: 1 to 8, else 0. */
 uint16_t gilstavo_check_graph(const uint16_t *sheet, size_t sheet_words);
 
-/* The number of successors of a block: 1 to 8, 33, else 0. *count is the number, 0 under a refusal. */
+/* The number of successors of a block: 1 to 8, 33, else 0. *count is the number; under a refusal it keeps its content. */
 uint16_t gilstavo_count_successors(const uint16_t *sheet, size_t sheet_words, uint16_t block, uint16_t *count);
 
 /* Weighs a graph sheet: 1 to 8, 21, 9, else 0.

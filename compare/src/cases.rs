@@ -84,8 +84,11 @@ pub fn build_case(random: &mut Random, tally: &mut Tally, sheet: &[u16]) -> Opti
 
     let blocks = sheet.first().map_or(2, |blocks| usize::from(*blocks));
     let block = random.pick(&[0, 1, 2, 3, blocks, blocks + 1, 65535]).min(65535) as u16;
-    let (answer, count) = raw::count_successors(sheet, block);
-    tally.call("count_successors", sheet, answer, (answer, count), reference::successor_count(sheet, block));
+    let junk = random.draw() as u16;
+    let mut count = junk;
+    let answer = raw::count_successors(sheet, block, &mut count);
+    let (wanted, number) = reference::successor_count(sheet, block);
+    tally.call("count_successors", sheet, answer, (answer, count), (wanted, if wanted == 0 { number } else { junk }));
 
     // Buffers too short, exact and too long, with junk in them.
     let area_size = area_length(random, sheet);

@@ -60,8 +60,8 @@ pub fn check_graph(sheet: &[u16]) -> Result<(), Refusal> {
 
 /// The number of successors of a block: 1 to 8, 33.
 pub fn count_successors(sheet: &[u16], block: u16) -> Result<u16, Refusal> {
-    let (answer, count) = raw::count_successors(sheet, block);
-    Refusal::from_answer(answer).map(|()| count)
+    let mut count = 0;
+    Refusal::from_answer(raw::count_successors(sheet, block, &mut count)).map(|()| count)
 }
 
 /// Weighs a graph sheet into the work area: 1 to 8, 21, 9. From 9 on the area holds the completion table.

@@ -42,10 +42,8 @@ pub fn check_graph(sheet: &[u16]) -> u16 {
     unsafe { exported::gilstavo_check_graph(sheet.as_ptr(), sheet.len()) }
 }
 
-pub fn count_successors(sheet: &[u16], block: u16) -> (u16, u16) {
-    let mut count = 0;
-    let answer = unsafe { exported::gilstavo_count_successors(sheet.as_ptr(), sheet.len(), block, &mut count) };
-    (answer, count)
+pub fn count_successors(sheet: &[u16], block: u16, count: &mut u16) -> u16 {
+    unsafe { exported::gilstavo_count_successors(sheet.as_ptr(), sheet.len(), block, count) }
 }
 
 pub fn weigh(sheet: &[u16], area: &mut [u8]) -> u16 {

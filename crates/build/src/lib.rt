@@ -144,7 +144,7 @@ fn build_large(s: &[u16], area: &[u8], degrees: &[u16], out: &mut [u16], b: usiz
     build_in_rows(s, area, degrees, &mut table, &mut marks, out, b)
 }
 
-// The bounded sheet of a weighed graph sheet within the budget b; the rows are local, once, and no larger than the sheet needs.
+// The bounded sheet of a weighed graph sheet within the budget b; the rows are local, once, of one of two sizes.
 fn build_weighed(s: &[u16], area: &[u8], out: &mut [u16], b: usize) -> u16
     requires { ⌜ sheetRefusal (now s) ≡ 0 ⌝ }
     requires { ⌜ (b ≤ mostBudget) × (isNone (lowOf (graph (now s)) 1 b) ≡ false) ⌝ }

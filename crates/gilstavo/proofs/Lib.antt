@@ -1,4 +1,4 @@
--- A walk as three words.
--- Rests on specs WalkWords.
--- read: stray, its-walk, last-end; at exit: refused-row, accepted-row
+-- A walk as three words, and what is lent.
+-- Rests on specs WalkWords and Lent.
+-- read: stray, its-walk, last-end; at exit: refused-lent, accepted-lent
 pub mod Words

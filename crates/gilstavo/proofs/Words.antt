@@ -1,13 +1,14 @@
--- Three words and the walk that they stand for.
--- Rests on specs WalkWords.
-use mathlib.Core.Path.{_≡_, refl, ap, _∙_}
+-- Three words and the walk that they stand for, and what is lent at exit.
+-- Rests on specs WalkWords and Lent.
+use mathlib.Core.Path.{_≡_, refl}
 use mathlib.Core.List.{List}
 use Prim.Native.Nat.{ℕ, zero, suc, _≤_, _<_}
 use borrow.Author.Tests.{lt-ltb, le-ltb}
 use lib.ListN.{getD}
 use Rattle.theory.specs.Machines.{diverted}
 use Rattle.theory.specs.Walks.{Walk}
-use Rattle.gilstavo.specs.WalkWords.{endIn, nowhere, walkIn, walkWords, rowAfter}
+use Rattle.gilstavo.specs.WalkWords.{endIn, nowhere, walkIn}
+use Rattle.gilstavo.specs.Lent.{lentAfter}
 
 pub last-end : (e : ℕ) → (e ≡ 0 → ⊥) → (e ≡ 1 → ⊥) → diverted ≡ endIn e
 unfolding endIn
@@ -26,12 +27,13 @@ module _ (row : List ℕ) where
   its-walk w l p c e =
       rw (le-ltb 2 (getD row 2 0) l, walkIn) (λ i. record { place = p i; count = c i; end = e i })
 
-  -- the words at exit
-  pub refused-row : (n : ℕ) (after : Walk) → (n ≡ 0 → ⊥) → row ≡ rowAfter n row after
-  unfolding rowAfter
-  refused-row zero after z = absurd (z refl)
-  refused-row (suc n) after z = refl
+-- what is lent, at exit
+module _ {A : Type 0} (old new : A) where
+  pub refused-lent : (n : ℕ) → (n ≡ 0 → ⊥) → old ≡ lentAfter n old new
+  unfolding lentAfter
+  refused-lent zero z = absurd (z refl)
+  refused-lent (suc n) z = refl
 
-  pub accepted-row : {words : List ℕ} (w after : Walk) → words ≡ walkWords w → w ≡ after → words ≡ rowAfter 0 row after
-  unfolding rowAfter
-  accepted-row w after e q = e ∙ ap walkWords q
+  pub accepted-lent : {x : A} → x ≡ new → x ≡ lentAfter 0 old new
+  unfolding lentAfter
+  accepted-lent e = e

@@ -32,8 +32,3 @@ walkIn row =
 
 abbrev pub walkWords : Walk → List ℕ
 walkWords w = w .place ∷ w .count ∷ endWord (w .end) ∷ []
-
--- the words at exit: under a refusal they keep their content
-unfoldable pub rowAfter : ℕ → List ℕ → Walk → List ℕ
-rowAfter zero row after = walkWords after
-rowAfter (suc n) row after = row

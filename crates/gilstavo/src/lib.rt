@@ -10,7 +10,8 @@ ghost use Rattle.calls.specs.Weigh.{weighed};
 ghost use Rattle.build.specs.Within.{built};
 ghost use Rattle.reader.specs.Placed.{Placed};
 ghost use Rattle.walk.specs.Walks.{endOf, walkOf};
-ghost use Rattle.gilstavo.specs.WalkWords.{endIn, endWord, walkIn, walkWords, rowAfter};
+ghost use Rattle.gilstavo.specs.WalkWords.{endIn, endWord, walkIn, walkWords};
+ghost use Rattle.gilstavo.specs.Lent.{lentAfter};
 use bounded_check::check_bounded;
 use build::build;
 use graph_check::check_graph;
@@ -30,15 +31,18 @@ pub extern "C" fn gilstavo_check_graph(sheet: &[u16]) -> u16
     check_graph(sheet)
 }
 
-// 1 to 8, 33, else 0; the number of successors of a block, 0 under a refusal.
+// 1 to 8, 33, else 0; the number of successors of a block.
 #[no_mangle]
 pub extern "C" fn gilstavo_count_successors(sheet: &[u16], block: u16, count: &mut u16) -> u16
     ensures { λ r. ⌜ r ≡ countSuccessors (now (sheet .entry)) block .answer ⌝ }
-    ensures { λ _. ⌜ now (count .exit) ≡ countSuccessors (now (sheet .entry)) block .count ⌝ }
+    ensures { λ r. ⌜ now (count .exit) ≡ lentAfter r (now (count .entry)) (countSuccessors (now (sheet .entry)) block .count) ⌝ }
 {
     let c = count_successors(sheet, block);
+    if c.answer != 0 {
+        return c.answer;
+    }
     *count = c.count;
-    c.answer
+    0
 }
 
 // 1 to 8, 21, 9, else 0; the completion table in the work area.
@@ -159,8 +163,8 @@ pub extern "C" fn gilstavo_monitored_move(
 ) -> u16
     ensures { λ r. ⌜ r
         ≡ monitoredMove (now (sheet .entry)) (walkIn (now (walk .entry))) (record { choice = choice; area = now (area .entry) }) .answer ⌝ }
-    ensures { λ r. ⌜ now (walk .exit) ≡ rowAfter r (now (walk .entry))
-        (monitoredMove (now (sheet .entry)) (walkIn (now (walk .entry))) (record { choice = choice; area = now (area .entry) }) .walk) ⌝ }
+    ensures { λ r. ⌜ now (walk .exit) ≡ lentAfter r (now (walk .entry))
+        (walkWords (monitoredMove (now (sheet .entry)) (walkIn (now (walk .entry))) (record { choice = choice; area = now (area .entry) }) .walk)) ⌝ }
     ensures { λ _. ⌜ now (area .exit)
         ≡ monitoredMove (now (sheet .entry)) (walkIn (now (walk .entry))) (record { choice = choice; area = now (area .entry) }) .area ⌝ }
 {
@@ -177,7 +181,8 @@ pub extern "C" fn gilstavo_monitored_move(
 #[no_mangle]
 pub extern "C" fn gilstavo_bounded_move(sheet: &[u16], walk: &mut [u16; 3], choice: u16) -> u16
     ensures { λ r. ⌜ r ≡ boundedMove (now (sheet .entry)) (walkIn (now (walk .entry))) choice .answer ⌝ }
-    ensures { λ r. ⌜ now (walk .exit) ≡ rowAfter r (now (walk .entry)) (boundedMove (now (sheet .entry)) (walkIn (now (walk .entry))) choice .after) ⌝ }
+    ensures { λ r. ⌜ now (walk .exit) ≡ lentAfter r (now (walk .entry))
+        (walkWords (boundedMove (now (sheet .entry)) (walkIn (now (walk .entry))) choice .after)) ⌝ }
 {
     let w = walk_of(walk);
     let m = bounded_move(sheet, w, choice);

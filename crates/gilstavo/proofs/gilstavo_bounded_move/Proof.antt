@@ -1,8 +1,9 @@
 -- A bounded move of the walk that the words stand for.
 -- Rests on moves `bounded_move`, Words.
-use mathlib.Core.Path.{sym, _∙_}
+use mathlib.Core.Path.{sym, ap, _∙_}
 use borrow.Author.Needs.{needs}
-use Rattle.gilstavo.proofs.Words.{refused-row, accepted-row}
+use Rattle.gilstavo.specs.WalkWords.{walkWords}
+use Rattle.gilstavo.proofs.Words.{refused-lent, accepted-lent}
 use Rattle.gilstavo.proofs.gilstavo_bounded_move.Statement.{statement}
 use Rattle.gilstavo.proofs.gilstavo_bounded_move.Tie as tie
 
@@ -10,14 +11,14 @@ returns : tie.Need-returns
 returns c =
     let d = c .before .before in
     let e = d .before .walk-of .ensures in
-    (rw e at (d .bounded-move .ensures .0), refused-row _ _ _ (c .if1 .taken))
+    (rw e at (d .bounded-move .ensures .0), refused-lent _ _ _ (c .if1 .taken))
 
 returns-2 : tie.Need-returns-2
 returns-2 c =
     let d = c .before .before .before .before in
     let e = d .before .walk-of .ensures in (
       sym (c .before .before .if1 .left) ∙ rw e at (d .bounded-move .ensures .0),
-      accepted-row _ _ _ (c .put-walk .ensures) (rw e at (d .bounded-move .ensures .1)),
+      accepted-lent _ _ (c .put-walk .ensures ∙ ap walkWords (rw e at (d .bounded-move .ensures .1))),
     )
 
 pub gilstavo-bounded-move-spec : {M : Type 1} → statement M

@@ -1,8 +1,9 @@
 -- A monitored move of the walk that the words stand for.
 -- Rests on moves `monitored_move`, Words.
-use mathlib.Core.Path.{sym, _∙_}
+use mathlib.Core.Path.{sym, ap, _∙_}
 use borrow.Author.Needs.{needs}
-use Rattle.gilstavo.proofs.Words.{refused-row, accepted-row}
+use Rattle.gilstavo.specs.WalkWords.{walkWords}
+use Rattle.gilstavo.proofs.Words.{refused-lent, accepted-lent}
 use Rattle.gilstavo.proofs.gilstavo_monitored_move.Statement.{statement}
 use Rattle.gilstavo.proofs.gilstavo_monitored_move.Tie as tie
 
@@ -11,7 +12,7 @@ returns c =
     let d = c .before .before .before .before in
     let e = d .before .before .walk-of .ensures in
     let m = d .monitored-move .ensures in
-    (rw e at (m .0), (refused-row _ _ _ (c .if1 .taken), rw e at (m .1 .1)))
+    (rw e at (m .0), (refused-lent _ _ _ (c .if1 .taken), rw e at (m .1 .1)))
 
 returns-2 : tie.Need-returns-2
 returns-2 c =
@@ -19,7 +20,7 @@ returns-2 c =
     let e = d .before .before .walk-of .ensures in
     let m = d .monitored-move .ensures in (
       sym (c .before .before .if1 .left) ∙ rw e at (m .0),
-      (accepted-row _ _ _ (c .put-walk .ensures) (rw e at (m .1 .0)), rw e at (m .1 .1)),
+      (accepted-lent _ _ (c .put-walk .ensures ∙ ap walkWords (rw e at (m .1 .0))), rw e at (m .1 .1)),
     )
 
 pub gilstavo-monitored-move-spec : {M : Type 1} → statement M
