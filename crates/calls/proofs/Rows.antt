@@ -22,16 +22,20 @@ use Rattle.formats.specs.Rule11.{tooShort, badLimits, wrongLength, largeBudget,
 use Rattle.formats.specs.Rule11.{badExit, badEdgeOrder, badTargetWords, boundedOrder, boundedRefusal, partOrder}
 use Rattle.formats.specs.File.{wordOf, wordsOf, oddBytes}
 use Rattle.formats.specs.Listing.{digits, decimal, line, headingLine, copyLine, listingOf, refusalOf}
+use Rattle.formats.specs.Catalogue.{sheetsUpTo, sheets}
+use Rattle.formats.specs.Report.{unusedBlocks, refusedAs, figuresLine, refusedLine, sheetLine, plus, sums, totalLine}
+use Rattle.formats.specs.Report.{greater, mostOf, most, mostLine, unusedLine, unusedLines, eachSheet, reportOf}
 use Rattle.calls.specs.SheetGraph.{graph, sheetCopies, rowOf, rowsOf, boundedSheet, readBounded}
 use Rattle.calls.specs.Area.{areaSize, marks, byteOf, bytes, filled}
 use Rattle.calls.specs.Weigh.{sheetArea, smallArea, nothingFits, weighOrder, beforeWeighing, areaAfter}
 use Rattle.calls.specs.Build.{tooMany, smallOutput, buildOrder, outputAfter, build}
 use Rattle.calls.specs.Moves.{outOfShape, unless, monitoredOrder, monitoredReply, monitoredMove, boundedMoveOrder, boundedMove}
 use Rattle.calls.specs.Program.{listingOrder, sheetListing, listing}
+use Rattle.calls.specs.Report.{sheetFigures, figures, report}
 use Rattle.calls.specs.Cases.{Case, endNumber, sheetShown, outcome}
 use Rattle.formats.specs.Samples.{paper, loop, twice, least, six, inBytes}
 use Rattle.calls.specs.Examples.{examples}
-use Rattle.calls.specs.Refusals.{refusals}
+use Rattle.calls.specs.Refusals.{sparing, refusals}
 
 -- the numbers of an order
 abbrev numbersOf : {I : Type 0} → Order I → List ℕ
@@ -57,7 +61,7 @@ unfolding examples paper loop twice least inBytes
 starred = refl
 
 pub pinned : Pinned refusals
-unfolding refusals six loop least inBytes
+unfolding refusals six loop least sparing inBytes
     any all keep each chosen isNone from member distinct equal same before isIn numberFrom refused over outside
     within completes largest lowOf copyFor targets add join spread candidates startCopies copiesFrom targetNumber
     taken replyAt reply answers final startAt endAt mostMoves isExit monitorTake monitor boundedTake boundedWalk
@@ -70,7 +74,10 @@ unfolding refusals six loop least inBytes
     wordOf wordsOf oddBytes digits decimal line headingLine copyLine listingOf refusalOf
     graph sheetCopies rowOf rowsOf boundedSheet readBounded marks byteOf bytes areaSize filled sheetArea
     smallArea nothingFits weighOrder beforeWeighing areaAfter tooMany smallOutput buildOrder outputAfter build
-    outOfShape unless monitoredOrder monitoredReply monitoredMove boundedMoveOrder boundedMove listingOrder sheetListing listing endNumber outcome
+    outOfShape unless monitoredOrder monitoredReply monitoredMove boundedMoveOrder boundedMove listingOrder sheetListing listing
+    sheetsUpTo sheets unusedBlocks refusedAs figuresLine refusedLine sheetLine plus sums totalLine
+    greater mostOf most mostLine unusedLine unusedLines eachSheet reportOf
+    sheetFigures figures report endNumber outcome
 pinned = refl
 
 -- each order's numbers, as document 01 lists them; no sheet small enough to compute passes the limits of 10, so its place and its limits

@@ -1,5 +1,5 @@
 -- Cases: one input of one call each, and what the definitions make of it, as a row of numbers. Examples and refusals are rows of them.
--- Rests on theory Machines and Walks, formats Rule11 and Refusals, SheetGraph, Build, Moves, Program, Demand.
+-- Rests on theory Machines and Walks, formats Rule11 and Refusals, SheetGraph, Build, Moves, Program, Report, Demand.
 use mathlib.Core.List.{List, [], _∷_, _++_}
 use Prim.Native.Nat.{ℕ, zero, suc}
 use lib.ListN.{replicate}
@@ -11,6 +11,7 @@ use Rattle.calls.specs.SheetGraph.{boundedSheet}
 use Rattle.calls.specs.Build.{Lent, build}
 use Rattle.calls.specs.Moves.{Move, monitoredMove, boundedMove}
 use Rattle.calls.specs.Program.{listing}
+use Rattle.calls.specs.Report.{report}
 use Rattle.calls.specs.Demand.{watch}
 
 pub data Case : Type 0 where
@@ -28,6 +29,8 @@ pub data Case : Type 0 where
   watchOf : List ℕ → List ℕ → Case
   -- the listing program's output on a file's bytes
   listingFor : List ℕ → Case
+  -- the report program's output on a catalogue's bytes
+  reportFor : List ℕ → Case
 
 unfoldable pub endNumber : End → ℕ
 endNumber going = 0
@@ -49,3 +52,4 @@ outcome (monitoredOf w s m) = let r = monitoredMove w s m in r .answer ∷ (walk
 outcome (moveOf t s k) = let r = boundedMove t s k in r .answer ∷ walkNumbers (r .after)
 outcome (watchOf w ks) = answers (watch w) starting ks ++ walkNumbers (final (watch w) starting ks)
 outcome (listingFor bs) = listing bs
+outcome (reportFor bs) = report bs

@@ -11,6 +11,8 @@ pub mod Build
 pub mod Moves
 -- the listing program's output
 pub mod Program
+-- the report program's output
+pub mod Report
 -- demand 2
 pub mod Construction
 -- demand 3

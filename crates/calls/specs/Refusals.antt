@@ -1,15 +1,19 @@
 -- The calls' refusals, pinned by rows of one list: each number, each limit at and one past it, neighbours in each order with both faults.
 -- Rests on theory Walks, formats Samples, Cases.
-use mathlib.Core.List.{List, [], _∷_}
+use mathlib.Core.List.{List, [], _∷_, _++_}
 use Prim.Native.Nat.{ℕ}
 use lib.ListN.{replicate}
 use Rattle.theory.specs.Machines.{End, going, exit, diverted}
 use Rattle.theory.specs.Walks.{Walk}
 use Rattle.formats.specs.Samples.{loop, least, six, inBytes}
-use Rattle.calls.specs.Cases.{Case, buildOf, monitoredOf, moveOf, watchOf, listingFor}
+use Rattle.calls.specs.Cases.{Case, buildOf, monitoredOf, moveOf, watchOf, listingFor, reportFor}
 
 abbrev walk : ℕ → ℕ → End → Walk
 walk p c e = record { place = p; count = c; end = e }
+
+-- blocks 3 and 4, of cost 1 and 2, each from the start and to the exit; B = 1
+unfoldable pub sparing : List ℕ
+sparing = 4 ∷ 4 ∷ 1 ∷ 0 ∷ 1 ∷ 0 ∷ 0 ∷ 1 ∷ 3 ∷ 2 ∷ 4 ∷ 3 ∷ 2 ∷ 4 ∷ 0 ∷ 2 ∷ 0 ∷ 2 ∷ 0 ∷ []
 
 unfoldable pub refusals : List (Case × List ℕ)
 refusals =
@@ -160,4 +164,29 @@ refusals =
     ∷ (listingFor (0 ∷ inBytes least), 114 ∷ 101 ∷ 102 ∷ 117 ∷ 115 ∷ 101 ∷ 100 ∷ 32 ∷ 49 ∷ 10 ∷ [])
     ∷ (listingFor (replicate 21 129), 114 ∷ 101 ∷ 102 ∷ 117 ∷ 115 ∷ 101 ∷ 100 ∷ 32 ∷ 49 ∷ 10 ∷ [])
     ∷ (listingFor (replicate 20 129), 114 ∷ 101 ∷ 102 ∷ 117 ∷ 115 ∷ 101 ∷ 100 ∷ 32 ∷ 50 ∷ 10 ∷ [])
+    -- the report program: an empty sheet is 1, a length beyond the words left 3; an odd last byte is ignored, an odd first one moves all words
+    ∷ (
+      reportFor (inBytes ((9 ∷ least) ++ ((15 ∷ loop 9) ++ ((15 ∷ loop 2) ++ (0 ∷ (19 ∷ sparing) ++ (10 ∷ least)))))),
+      49 ∷ 32 ∷ 50 ∷ 32 ∷ 50 ∷ 32 ∷ 49 ∷ 10
+          ∷ 50 ∷ 32 ∷ 51 ∷ 32 ∷ 53 ∷ 32 ∷ 55 ∷ 10
+          ∷ 51 ∷ 32 ∷ 114 ∷ 101 ∷ 102 ∷ 117 ∷ 115 ∷ 101 ∷ 100 ∷ 32 ∷ 57 ∷ 10
+          ∷ 52 ∷ 32 ∷ 114 ∷ 101 ∷ 102 ∷ 117 ∷ 115 ∷ 101 ∷ 100 ∷ 32 ∷ 49 ∷ 10
+          ∷ 53 ∷ 32 ∷ 52 ∷ 32 ∷ 51 ∷ 32 ∷ 51 ∷ 10
+          ∷ 54 ∷ 32 ∷ 114 ∷ 101 ∷ 102 ∷ 117 ∷ 115 ∷ 101 ∷ 100 ∷ 32 ∷ 51 ∷ 10
+          ∷ 116 ∷ 111 ∷ 116 ∷ 97 ∷ 108 ∷ 32 ∷ 57 ∷ 32 ∷ 49 ∷ 48 ∷ 32 ∷ 49 ∷ 49 ∷ 10
+          ∷ 109 ∷ 111 ∷ 115 ∷ 116 ∷ 32 ∷ 50 ∷ 32 ∷ 53 ∷ 32 ∷ 51 ∷ 10
+          ∷ 117 ∷ 110 ∷ 117 ∷ 115 ∷ 101 ∷ 100 ∷ 32 ∷ 53 ∷ 32 ∷ 52 ∷ 10 ∷ [],
+    )
+    ∷ (
+      reportFor (inBytes (9 ∷ least) ++ (9 ∷ [])),
+      49 ∷ 32 ∷ 50 ∷ 32 ∷ 50 ∷ 32 ∷ 49 ∷ 10
+          ∷ 116 ∷ 111 ∷ 116 ∷ 97 ∷ 108 ∷ 32 ∷ 50 ∷ 32 ∷ 50 ∷ 32 ∷ 49 ∷ 10
+          ∷ 109 ∷ 111 ∷ 115 ∷ 116 ∷ 32 ∷ 49 ∷ 32 ∷ 50 ∷ 32 ∷ 50 ∷ 10 ∷ [],
+    )
+    ∷ (
+      reportFor (0 ∷ inBytes (9 ∷ least)),
+      49 ∷ 32 ∷ 114 ∷ 101 ∷ 102 ∷ 117 ∷ 115 ∷ 101 ∷ 100 ∷ 32 ∷ 51 ∷ 10
+          ∷ 116 ∷ 111 ∷ 116 ∷ 97 ∷ 108 ∷ 32 ∷ 48 ∷ 32 ∷ 48 ∷ 32 ∷ 48 ∷ 10
+          ∷ 109 ∷ 111 ∷ 115 ∷ 116 ∷ 32 ∷ 110 ∷ 111 ∷ 110 ∷ 101 ∷ 10 ∷ [],
+    )
     ∷ []

@@ -14,8 +14,11 @@ use Rattle.formats.specs.Rule11.{tooShort, badLimits, wrongLength, large
 use Rattle.formats.specs.Rule11.{badExit, badEdgeOrder, badTargetWords, boundedOrder, boundedRefusal, partOrder, handOut}
 use Rattle.formats.specs.File.{wordOf, wordsOf}
 use Rattle.formats.specs.Listing.{digits, decimal, line, headingLine, copyLine, listingOf}
+use Rattle.formats.specs.Catalogue.{sheetsUpTo, sheets}
+use Rattle.formats.specs.Report.{unusedBlocks, refusedAs, figuresLine, refusedLine, sheetLine, plus, sums, totalLine}
+use Rattle.formats.specs.Report.{greater, mostOf, most, mostLine, unusedLine, unusedLines, eachSheet, reportOf}
 use Rattle.formats.specs.Samples.{paper, least, nine, inBytes}
-use Rattle.formats.specs.Refusals.{outcome, refusals}
+use Rattle.formats.specs.Refusals.{sheetShown, outcome, refusals}
 
 pub pinned : map (λ r. outcome (r .0)) refusals ≡ map (λ r. r .1) refusals
 unfolding refusals paper least nine inBytes
@@ -25,5 +28,8 @@ unfolding refusals paper least nine inBytes
     heading blockAt lowAt firstAt targetAt nextAt copyAt chainAt targetsAt edgePart
     tooShort badLimits wrongLength largeBudget badBlocks badLows badCopyOrder copiesOf notOneOf
     badExit badEdgeOrder badTargetWords boundedOrder boundedRefusal partOrder handOut
-    wordOf wordsOf digits decimal line headingLine copyLine listingOf outcome
+    wordOf wordsOf digits decimal line headingLine copyLine listingOf
+    sheetsUpTo sheets unusedBlocks refusedAs figuresLine refusedLine sheetLine plus sums totalLine
+    greater mostOf most mostLine unusedLine unusedLines eachSheet reportOf
+    sheetShown outcome
 pinned = refl

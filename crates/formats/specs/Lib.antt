@@ -13,6 +13,9 @@ pub mod Rule11
 pub mod File
 -- a listing's text
 pub mod Listing
+-- a catalogue of graph sheets, and the text of its report
+pub mod Catalogue
+pub mod Report
 -- sample sheets
 pub mod Samples
 -- rows that pin the conditions, rule 11, files and listings

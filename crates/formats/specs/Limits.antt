@@ -37,3 +37,7 @@ mostBoundedEdges = 8192
 -- one more than the largest word
 abbrev pub wordLimit : ℕ
 wordLimit = 65536
+
+-- the sheets of a catalogue (document 02, K1: "up to 200 graph sheets")
+abbrev pub mostSheets : ℕ
+mostSheets = 200

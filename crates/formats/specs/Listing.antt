@@ -38,7 +38,7 @@ edgesText = 101 ∷ 100 ∷ 103 ∷ 101 ∷ 115 ∷ []
 abbrev budgetText : List ℕ
 budgetText = 98 ∷ 117 ∷ 100 ∷ 103 ∷ 101 ∷ 116 ∷ []
 
-abbrev refusedText : List ℕ
+abbrev pub refusedText : List ℕ
 refusedText = 114 ∷ 101 ∷ 102 ∷ 117 ∷ 115 ∷ 101 ∷ 100 ∷ []
 
 -- "one heading line with C, F and B"

@@ -1,12 +1,16 @@
 -- The formats' own refusals, pinned by rows of one list: each number, each limit at and one past it, neighbours in the order with both faults.
--- Rests on GraphSheet, Rule11, File, Listing, Samples.
-use mathlib.Core.List.{List, [], _∷_}
-use Prim.Native.Nat.{ℕ}
-use lib.ListN.{set}
+-- Rests on base Lists, GraphSheet, Rule11, File, Listing, Catalogue, Report, Samples.
+use mathlib.Core.List.{List, [], _∷_, _++_}
+use mathlib.Core.Option.{Option, some, none}
+use Prim.Native.Nat.{ℕ, suc}
+use lib.ListN.{length, replicate, set}
+use Rattle.base.specs.Lists.{each}
 use Rattle.formats.specs.GraphSheet.{sheetRefusal, countSuccessors}
 use Rattle.formats.specs.Rule11.{boundedRefusal, handOut}
 use Rattle.formats.specs.File.{wordsOf}
 use Rattle.formats.specs.Listing.{decimal, listingOf}
+use Rattle.formats.specs.Catalogue.{sheetsUpTo, sheets}
+use Rattle.formats.specs.Report.{Figures, unusedBlocks, refusedAs, reportOf}
 use Rattle.formats.specs.Samples.{paper, nine, inBytes}
 
 -- one input of one call
@@ -25,6 +29,18 @@ pub data Case : Type 0 where
   decimalOf : ℕ → Case
   -- a bounded sheet's listing
   textOf : List ℕ → Case
+  -- the first sheets of a catalogue, each as one more than its length and its words, 0 for a length beyond the words left
+  sheetsOf : ℕ → List ℕ → Case
+  -- the number of a catalogue's sheets
+  sheetCount : List ℕ → Case
+  -- the blocks 1 to n of which a bounded sheet has no copy
+  unusedOf : ℕ → List ℕ → Case
+  -- the report on sheets with these figures
+  reportFrom : List Figures → Case
+
+unfoldable pub sheetShown : Option (List ℕ) → List ℕ
+sheetShown none = 0 ∷ []
+sheetShown (some w) = suc (length w) ∷ w
 
 -- what the definitions make of it, as a row of numbers
 unfoldable pub outcome : Case → List ℕ
@@ -35,6 +51,14 @@ outcome (partOf t i) = let r = handOut t i in r .answer ∷ r .words
 outcome (fileOf bs) = wordsOf bs
 outcome (decimalOf n) = decimal n
 outcome (textOf t) = listingOf t
+outcome (sheetsOf k ws) = each sheetShown (sheetsUpTo k ws)
+outcome (sheetCount ws) = length (sheets ws) ∷ []
+outcome (unusedOf n t) = unusedBlocks n t
+outcome (reportFrom fs) = reportOf fs
+
+-- the figures of an accepted sheet
+abbrev figured : ℕ → ℕ → ℕ → List ℕ → Figures
+figured n c f vs = record { answer = 0; blocks = n; copies = c; edges = f; unused = vs }
 
 unfoldable pub refusals : List (Case × List ℕ)
 refusals =
@@ -147,5 +171,49 @@ refusals =
           ∷ 32 ∷ 98 ∷ 117 ∷ 100 ∷ 103 ∷ 101 ∷ 116 ∷ 32 ∷ 48 ∷ 10
           ∷ 49 ∷ 32 ∷ 49 ∷ 32 ∷ 48 ∷ 32 ∷ 50 ∷ 10
           ∷ 50 ∷ 32 ∷ 50 ∷ 32 ∷ 48 ∷ 10 ∷ [],
+    )
+    -- a catalogue's sheets: none; lengths 2 and 0; words after the last that is asked for; a length beyond the words left, with and without words
+    ∷ (sheetsOf 9 [], [])
+    ∷ (sheetsOf 9 (2 ∷ 5 ∷ 6 ∷ 0 ∷ 1 ∷ 7 ∷ []), 3 ∷ 5 ∷ 6 ∷ 1 ∷ 2 ∷ 7 ∷ [])
+    ∷ (sheetsOf 2 (2 ∷ 5 ∷ 6 ∷ 0 ∷ 1 ∷ 7 ∷ []), 3 ∷ 5 ∷ 6 ∷ 1 ∷ [])
+    ∷ (sheetsOf 9 (2 ∷ 5 ∷ 6 ∷ 2 ∷ 7 ∷ []), 3 ∷ 5 ∷ 6 ∷ 0 ∷ [])
+    ∷ (sheetsOf 9 (0 ∷ 1 ∷ []), 1 ∷ 0 ∷ [])
+    -- 200 of them and one more
+    ∷ (sheetCount (replicate 200 0), 200 ∷ [])
+    ∷ (sheetCount (replicate 201 0), 200 ∷ [])
+    -- the blocks without a copy
+    ∷ (unusedOf 8 nine, [])
+    ∷ (unusedOf 10 (3 ∷ 1 ∷ 0 ∷ 1 ∷ 0 ∷ 1 ∷ 2 ∷ 0 ∷ 0 ∷ 5 ∷ 0 ∷ 0 ∷ 2 ∷ 0 ∷ []), 3 ∷ 4 ∷ 6 ∷ 7 ∷ 8 ∷ 9 ∷ 10 ∷ [])
+    -- reports: no sheet; only refused ones; a refused one between others, equal fractions, unused blocks; a smaller fraction with more copies
+    ∷ (
+      reportFrom [],
+      116 ∷ 111 ∷ 116 ∷ 97 ∷ 108 ∷ 32 ∷ 48 ∷ 32 ∷ 48 ∷ 32 ∷ 48 ∷ 10
+          ∷ 109 ∷ 111 ∷ 115 ∷ 116 ∷ 32 ∷ 110 ∷ 111 ∷ 110 ∷ 101 ∷ 10 ∷ [],
+    )
+    ∷ (
+      reportFrom (refusedAs 10 ∷ []),
+      49 ∷ 32 ∷ 114 ∷ 101 ∷ 102 ∷ 117 ∷ 115 ∷ 101 ∷ 100 ∷ 32 ∷ 49 ∷ 48 ∷ 10
+          ∷ 116 ∷ 111 ∷ 116 ∷ 97 ∷ 108 ∷ 32 ∷ 48 ∷ 32 ∷ 48 ∷ 32 ∷ 48 ∷ 10
+          ∷ 109 ∷ 111 ∷ 115 ∷ 116 ∷ 32 ∷ 110 ∷ 111 ∷ 110 ∷ 101 ∷ 10 ∷ [],
+    )
+    ∷ (
+      reportFrom (figured 4 4 5 (4 ∷ []) ∷ refusedAs 3 ∷ figured 2 3 1 [] ∷ figured 4 6 3 (3 ∷ 4 ∷ []) ∷ []),
+      49 ∷ 32 ∷ 52 ∷ 32 ∷ 52 ∷ 32 ∷ 53 ∷ 10
+          ∷ 50 ∷ 32 ∷ 114 ∷ 101 ∷ 102 ∷ 117 ∷ 115 ∷ 101 ∷ 100 ∷ 32 ∷ 51 ∷ 10
+          ∷ 51 ∷ 32 ∷ 50 ∷ 32 ∷ 51 ∷ 32 ∷ 49 ∷ 10
+          ∷ 52 ∷ 32 ∷ 52 ∷ 32 ∷ 54 ∷ 32 ∷ 51 ∷ 10
+          ∷ 116 ∷ 111 ∷ 116 ∷ 97 ∷ 108 ∷ 32 ∷ 49 ∷ 48 ∷ 32 ∷ 49 ∷ 51 ∷ 32 ∷ 57 ∷ 10
+          ∷ 109 ∷ 111 ∷ 115 ∷ 116 ∷ 32 ∷ 51 ∷ 32 ∷ 51 ∷ 32 ∷ 50 ∷ 10
+          ∷ 117 ∷ 110 ∷ 117 ∷ 115 ∷ 101 ∷ 100 ∷ 32 ∷ 49 ∷ 32 ∷ 52 ∷ 10
+          ∷ 117 ∷ 110 ∷ 117 ∷ 115 ∷ 101 ∷ 100 ∷ 32 ∷ 52 ∷ 32 ∷ 51 ∷ 10
+          ∷ 117 ∷ 110 ∷ 117 ∷ 115 ∷ 101 ∷ 100 ∷ 32 ∷ 52 ∷ 32 ∷ 52 ∷ 10 ∷ [],
+    )
+    ∷ (
+      reportFrom (figured 100 149 9 [] ∷ figured 2 3 1 [] ∷ figured 3 4 1 [] ∷ []),
+      49 ∷ 32 ∷ 49 ∷ 48 ∷ 48 ∷ 32 ∷ 49 ∷ 52 ∷ 57 ∷ 32 ∷ 57 ∷ 10
+          ∷ 50 ∷ 32 ∷ 50 ∷ 32 ∷ 51 ∷ 32 ∷ 49 ∷ 10
+          ∷ 51 ∷ 32 ∷ 51 ∷ 32 ∷ 52 ∷ 32 ∷ 49 ∷ 10
+          ∷ 116 ∷ 111 ∷ 116 ∷ 97 ∷ 108 ∷ 32 ∷ 49 ∷ 48 ∷ 53 ∷ 32 ∷ 49 ∷ 53 ∷ 54 ∷ 32 ∷ 49 ∷ 49 ∷ 10
+          ∷ 109 ∷ 111 ∷ 115 ∷ 116 ∷ 32 ∷ 50 ∷ 32 ∷ 51 ∷ 32 ∷ 50 ∷ 10 ∷ [],
     )
     ∷ []

@@ -2,7 +2,7 @@
 -- Rests on base Lists and Copy, Completions, Copies, Machines, Walks.
 use mathlib.Core.Path.{_≡_}
 use mathlib.Core.Logic.{_≢_, _⊎_, _↔_}
-use mathlib.Core.List.{List, [], map, List·Memᴰ}
+use mathlib.Core.List.{List, [], _∷_, map, List·Memᴰ}
 use mathlib.Core.Option.{some}
 use Prim.Native.Nat.{ℕ, _+_, _-_, _≤_, _<_}
 use lib.ListN.{length}
@@ -37,6 +37,15 @@ pub record ActsAsWatch (g : Graph) (b : ℕ) : Type 0 where
   pub diverts : (s : Walk) (k t : ℕ) → s .end ≡ going → chosen (g .next (s .place)) k ≡ some t
       → ((c : ℕ) → Completion g t c → c ≤ b - s .count → ⊥)
       → reply (monitor g b) s k ≡ record { answer = 0; after = record { place = s .place; count = s .count; end = diverted } }
+
+-- A KEPT PATH through a block: a path from the start to the exit that costs at most the budget b and enters the block v; it begins at block 1
+pub record Kept (g : Graph) (b v : ℕ) : Type 0 where
+  pub choices : List ℕ
+  pub blocks : List ℕ
+  pub cost : ℕ
+  pub path : Path g 1 choices blocks cost
+  pub within : cost ≤ b
+  pub enters : List·Memᴰ v (1 ∷ blocks)
 
 -- A SETTING: a well-formed graph of some blocks, with budgets, the largest of which leaves block 1 a completion
 pub record Setting : Type 0 where
