@@ -53,10 +53,13 @@ module _ (s : List ℕ) (ok : boundedRefusal s ≡ 0) where
     not-this : (f : ℕ → Bool) → any f (from 1 (h .copies)) ≡ false → f i ≡ false
     not-this f e = any-false f (from 1 (h .copies)) e listed
 
-    pub block-most : blockAt h s i ≤ mostBlocks
+    pub block-inside : (1 ≤ blockAt h s i) × (blockAt h s i ≤ mostBlocks)
     unfolding badBlocks
-    block-most =
-        inside-of 1 mostBlocks (blockAt h s i) (not-this (λ i. outside 1 mostBlocks (blockAt h s i)) (C .records .blocks)) .1
+    block-inside =
+        inside-of 1 mostBlocks (blockAt h s i) (not-this (λ i. outside 1 mostBlocks (blockAt h s i)) (C .records .blocks))
+
+    pub block-most : blockAt h s i ≤ mostBlocks
+    block-most = block-inside .1
 
     pub low-most : lowAt h s i ≤ mostBudget
     unfolding badLows

@@ -1,6 +1,6 @@
 -- lines, part by part: heading-is, copy-is, refusal-is
 pub mod Lines
--- what rule 11 gives, number by number: chain-inside, block-most, low-most, target-most
+-- what rule 11 gives, number by number: chain-inside, block-inside, low-most, target-most
 pub mod Kept
 -- the texts have room: listing-fits, refusal-fits
 pub mod Room

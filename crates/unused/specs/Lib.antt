@@ -1,0 +1,2 @@
+-- rows of marks: marked, markedBlocks, First, Unmarked
+pub mod Marks

@@ -1,0 +1,26 @@
+-- A row of marks, a byte for each block, and the blocks that it names.
+-- Rests on base Lists, formats Limits.
+use mathlib.Core.Path.{_≡_}
+use mathlib.Core.Bool.{Bool, _&&_, not}
+use mathlib.Core.List.{List}
+use Prim.Native.Nat.{ℕ, _-_, _≤_}
+use lib.Dec.{leb, eqb}
+use lib.ListN.{getD}
+use Rattle.base.specs.Lists.{keep, from, member}
+use Rattle.formats.specs.Limits.{mostBlocks}
+
+-- a block's mark
+unfoldable pub marked : List ℕ → ℕ → Bool
+marked ms v = not (eqb (getD ms (v - 1) 0) 0)
+
+-- the marked blocks, rising
+unfoldable pub markedBlocks : List ℕ → List ℕ
+markedBlocks ms = keep (marked ms) (from 1 mostBlocks)
+
+-- the blocks 1 to n are marked, and no other
+pub record First (n : ℕ) (ms : List ℕ) : Type 0 where
+  pub is : (v : ℕ) → 1 ≤ v → v ≤ mostBlocks → marked ms v ≡ leb v n
+
+-- some blocks lost their marks, and no other
+pub record Unmarked (bs old new : List ℕ) : Type 0 where
+  pub is : (v : ℕ) → 1 ≤ v → v ≤ mostBlocks → marked new v ≡ (marked old v && not (member v bs))
