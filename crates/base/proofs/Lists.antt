@@ -4,14 +4,16 @@ use mathlib.Core.Path.{_≡_, refl, sym, ap, ap₂, subst, _∙_}
 use mathlib.Core.Logic.{_≢_, _⊎_, inl, inr, ⊎-elim}
 use mathlib.Core.Bool.{Bool, true, false}
 use mathlib.Core.List.{List, [], _∷_, _++_, map, List·Memᴰ, List·Memᴰ·head, List·Memᴰ·tail, List·Memᴰ·not-nil, List·Memᴰ·cases-cons}
-use mathlib.Core.List.{Memᴰ·append-left, Memᴰ·append-right, List·Memᴰ·append-cases}
+use mathlib.Core.List.{Memᴰ·append-left, Memᴰ·append-right, List·Memᴰ·append-cases, Memᴰ·cast}
 use mathlib.Core.Option.{Option, some, none, Option·map, Option·none-ne-some, Option·some-injective}
 use Prim.Native.Nat.{ℕ, zero, suc, _+_, _≤_, _<_}
 use native.Mathlib.Omega.{arith}
 use native.Mathlib.Decide.{ℕ-discrete}
+use borrow.Author.Tests.{eqb-true, eq-eqb}
+use lib.Dec.{eqb}
 use lib.ListN.{length, take}
-use Rattle.base.specs.Lists.{each, keep, chosen, from}
-use Rattle.base.proofs.Truth.{not-both}
+use Rattle.base.specs.Lists.{each, keep, chosen, from, member}
+use Rattle.base.proofs.Truth.{not-both, any-i, any-e}
 
 -- the lists that f gives
 module _ {A B : Type 0} (f : A → List B) where
@@ -76,6 +78,15 @@ module _ {A : Type 0} (f : A → Bool) where
   unfolding keep
   keep-all [] h = refl
   keep-all (x ∷ xs) h = rw (h x (List·Memᴰ·head refl), keep) (ap (λ (l : List A). x ∷ l) (keep-all xs (λ y m. h y (List·Memᴰ·tail m))))
+
+-- the test of a member
+pub member-i : {x : ℕ} {xs : List ℕ} → List·Memᴰ x xs → member x xs ≡ true
+unfolding member
+member-i {x} m = any-i (λ y. eqb x y) m (eq-eqb x x refl)
+
+pub member-e : (x : ℕ) (xs : List ℕ) → member x xs ≡ true → List·Memᴰ x xs
+unfolding member
+member-e x xs p = let m = any-e (λ y. eqb x y) xs p in Memᴰ·cast (eqb-true x (m .0) (m .2)) (m .1)
 
 -- the numbers from a on
 pub from-i : (k a x : ℕ) → a ≤ x → x < a + k → List·Memᴰ x (from a k)

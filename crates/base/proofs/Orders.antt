@@ -75,6 +75,14 @@ module _ {I : Type 0} where
       go true p rest = absurd (let q : x .0 ≡ 0 = rw (p, refused) at e in omega (arith, a .0))
       go false p rest = rw (p, refused) (rest (rw (p, refused) at e))
 
+  -- neither refuses
+  pub append-e : (xs ys : Order I) (i : I) → Numbered xs → refused (xs ++ ys) i ≡ 0 → (refused xs i ≡ 0) × (refused ys i ≡ 0)
+  append-e xs ys i n e = go (ℕ-discrete (refused xs i) 0)
+    where
+      go : Dec (refused xs i ≡ 0) → (refused xs i ≡ 0) × (refused ys i ≡ 0)
+      go (yes p) = (p, sym (append-passes xs ys i n p) ∙ e)
+      go (no p) = absurd (p (sym (append-stops xs ys i p) ∙ e))
+
 -- an order over a part of the input
 pub over-is : {I J : Type 0} (f : J → I) (rs : Order I) (j : J) → refused (over f rs) j ≡ refused rs (f j)
 unfolding refused over
@@ -98,11 +106,7 @@ module _ {I J : Type 0} (f : J → I) (rs : Order I) (qs : Order J) (j : J) wher
   over-i n e h = over-passes n e ∙ h
 
   pub over-e : Numbered rs → refused (over f rs ++ qs) j ≡ 0 → (refused rs (f j) ≡ 0) × (refused qs j ≡ 0)
-  over-e n e = go (ℕ-discrete (refused rs (f j)) 0)
-    where
-      go : Dec (refused rs (f j) ≡ 0) → (refused rs (f j) ≡ 0) × (refused qs j ≡ 0)
-      go (yes p) = (p, sym (over-passes n p) ∙ e)
-      go (no p) = absurd (p (sym (over-stops p) ∙ e))
+  over-e n e = let a = append-e (over f rs) qs j (numbered-over f rs n) e in (sym (over-is f rs j) ∙ a .0, a .1)
 
 -- limits
 pub inside-of : (lo hi n : ℕ) → outside lo hi n ≡ false → (lo ≤ n) × (n ≤ hi)

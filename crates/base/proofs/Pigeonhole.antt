@@ -10,16 +10,16 @@ use borrow.Author.Tests.{eq-eqb, ne-eqb, eqb-true, not-false, not-true}
 use lib.Dec.{eqb}
 use lib.ListN.{length}
 use Rattle.base.specs.Lists.{keep, member, distinct}
-use Rattle.base.proofs.Truth.{not-both, and-e, any-i}
-use Rattle.base.proofs.Lists.{keep-e, Distinct}
+use Rattle.base.proofs.Truth.{not-both, and-e}
+use Rattle.base.proofs.Lists.{keep-e, member-i, Distinct}
 
 -- the test of different numbers
 pub distinct-e : (xs : List ℕ) → distinct xs ≡ true → Distinct xs
-unfolding distinct Distinct member
+unfolding distinct Distinct
 distinct-e [] e = tt
 distinct-e (x ∷ xs) e =
     let p = and-e (not (member x xs)) (distinct xs) e in
-    (λ m. not-both (any-i (λ y. eqb x y) m (eq-eqb x x refl)) (not-true (member x xs) (p .0)), distinct-e xs (p .1))
+    (λ m. not-both (member-i m) (not-true (member x xs) (p .0)), distinct-e xs (p .1))
 
 module _ (k : ℕ) where
   other : ℕ → Bool

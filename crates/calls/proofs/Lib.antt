@@ -16,3 +16,7 @@ pub mod Demand
 pub mod Area
 -- the starred examples and the refusals, row by row: starred, pinned
 pub mod Rows
+-- what a report says of a sheet: sheet-accepted, sheet-refused, listed, unused-exactly
+pub mod Unused
+-- and of the greatest: report-greatest
+pub mod Greatest

@@ -22,7 +22,7 @@ pub weigh-numbered : Numbered weighOrder
 unfolding all over sheetOrder weighOrder
 weigh-numbered = refl
 
-some-low : (o : Option ℕ) → isNone o ≡ false → (a : ℕ) × (o ≡ some a)
+pub some-low : (o : Option ℕ) → isNone o ≡ false → (a : ℕ) × (o ≡ some a)
 unfolding isNone
 some-low none e = absurd (let z : _≡_ {A = ℕ} 0 1 = cc in omega arith)
 some-low (some a) e = (a, refl)

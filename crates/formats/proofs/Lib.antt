@@ -14,3 +14,5 @@ pub mod WordsFit
 pub mod Parts
 -- the rows of refusals: pinned
 pub mod Rows
+-- the fold of a report's figures finds the greatest fraction, the earliest of equal ones: greatest, one-line
+pub mod Greatest

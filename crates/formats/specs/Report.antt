@@ -1,10 +1,13 @@
 -- The text of a report on a catalogue, from the figures of its sheets (document 02, K1).
 -- Rests on base Lists, BoundedSheet, Listing.
+use mathlib.Core.Path.{_≡_}
+use mathlib.Core.Logic.{_≢_, _⊎_}
 use mathlib.Core.Bool.{Bool, true, false, not}
 use mathlib.Core.List.{List, [], _∷_, _++_, map}
-use Prim.Native.Nat.{ℕ, zero, suc, _+_, _*_}
+use mathlib.Core.Option.{some}
+use Prim.Native.Nat.{ℕ, zero, suc, _+_, _*_, _≤_, _<_}
 use lib.Dec.{ltb}
-use Rattle.base.specs.Lists.{keep, each, from, member}
+use Rattle.base.specs.Lists.{keep, each, chosen, from, member}
 use Rattle.formats.specs.BoundedSheet.{heading, blockAt}
 use Rattle.formats.specs.Listing.{decimal, line, refusedText}
 
@@ -92,6 +95,22 @@ mostOf m p f = elim (greater f m) [ true ↦ record { place = p; copies = f .cop
 unfoldable pub most : Most → ℕ → List Figures → Most
 most m p [] = m
 most m p (f ∷ fs) = most (mostOf m p f) (suc p) fs
+
+-- WHAT IT FINDS: "the routine with the greatest copies to blocks as a fraction (or none)"; "Fractions are compared by whole numbers, never
+-- rounded; equal ones go to the earlier sheet"
+pub record Greatest (fs : List Figures) (m : Most) : Type 0 where
+  -- it is the place of a sheet, with that sheet's numbers, or 0
+  pub found : (m .place ≡ 0)
+      ⊎ ((f : Figures) × (chosen fs (m .place) ≡ some f) × (f .copies ≡ m .copies) × (f .blocks ≡ m .blocks))
+  -- no sheet has a greater fraction
+  pub above : (p : ℕ) (f : Figures) → chosen fs p ≡ some f → f .copies * m .blocks ≤ m .copies * f .blocks
+  -- an earlier one has a smaller one
+  pub earliest : (p : ℕ) (f : Figures) → p < m .place → chosen fs p ≡ some f → 1 ≤ f .blocks
+      → f .copies * m .blocks < m .copies * f .blocks
+  -- 0 is for no sheet with copies
+  pub nothing : m .place ≡ 0 → (p : ℕ) (f : Figures) → chosen fs p ≡ some f → f .copies ≡ 0
+  -- and a place for one with copies and blocks: 0 / 0, a refused sheet's, is no fraction
+  pub whole : m .place ≢ 0 → (1 ≤ m .copies) × (1 ≤ m .blocks)
 
 -- "`most`, place, C, N, or `most none`"
 unfoldable pub mostLine : Most → List ℕ

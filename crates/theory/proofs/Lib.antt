@@ -21,3 +21,5 @@ pub mod Agreement
 pub mod Shape
 -- a completion cost by the costs of the successors: at-exit, too-dear, by-next
 pub mod Step
+-- a block has a copy exactly where a kept path enters it: used
+pub mod Used

@@ -149,6 +149,14 @@ pub target-mem : (g : Graph) (c d : Copy) → List·Memᴰ (some d) (targets g c
     → List·Memᴰ (d .block) (g .next (c .block)) × (lowOf g (d .block) (c .low - g .cost (c .block)) ≡ some (d .low))
 target-mem g c d m = let k = choice-of m in target-of g c d (suc (k .0)) (k .1)
 
+-- and the copy of a successor is a target
+pub target-i : (g : Graph) (u a t d : ℕ) → List·Memᴰ t (g .next u) → lowOf g t (a - g .cost u) ≡ some d
+    → List·Memᴰ (some (copyOf t d)) (targets g (copyOf u a))
+unfolding targets copyFor
+target-i g u a t d m e =
+    let s : copyFor g (a - g .cost u) t ≡ some (copyOf t d) = ap (Option·map (copyOf t)) e in
+    Memᴰ·cast (sym s) (Memᴰ·map (copyFor g (a - g .cost u)) m)
+
 module _ (S : Setting) where
   abbrev g : Graph
   g = S .graph
@@ -238,12 +246,10 @@ module _ (S : Setting) where
   -- the exit's copy is reached along any completion, and is the only one of its block
   to-exit : {v c : ℕ} → Completion g v c → (j : ℕ) → Reached g (starts S) j (copyOf v c)
       → (i : ℕ) × Reached g (starts S) i (exitCopy S)
-  unfolding targets copyFor
   to-exit exit j r = (j, r)
   to-exit (step {v = v} {t = t} {c = c} {n = m} e d q) j r =
       let p : m - g .cost v ≡ c = omega arith in
-      let s : copyFor g (m - g .cost v) t ≡ some (copyOf t c) = rw (p, low-self g L d) in
-      to-exit d (suc j) (along r (Memᴰ·cast (sym s) (Memᴰ·map (copyFor g (m - g .cost v)) e)))
+      to-exit d (suc j) (along r (target-i g v m t c e (rw p (low-self g L d))))
 
   pub exit-in : List·Memᴰ (exitCopy S) (copies S)
   exit-in =

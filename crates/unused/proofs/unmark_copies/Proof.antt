@@ -35,7 +35,7 @@ inside c =
     let l = c .before .before .loop in
     let z = c .before .before .before .before .before .before in
     let b = block-inside (z .args .t .now) (z .pre .0) (l .i) (l .inv .least)
-            (omega (arith, c .before .before .before .copies .ensures .0, c .before .loop-test .taken)) in
+    (omega (arith, c .before .before .before .copies .ensures .0, c .before .loop-test .taken)) in
     (omega (arith, b, c .block-at .ensures .0), omega (arith, b, c .block-at .ensures .0))
 
 sub-marks : tie.Need-sub-marks Inv-loop μ-loop
