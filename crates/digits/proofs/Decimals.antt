@@ -67,3 +67,9 @@ digits-4 n l = length-more 3 n (λ _. digits-3 (n / 10) (omega arith)) (omega ar
 
 pub digits-5 : (n : ℕ) → n < 100000 → length (decimal n) ≤ 5
 digits-5 n l = length-more 4 n (λ _. digits-4 (n / 10) (omega arith)) (omega arith)
+
+digits-6 : (n : ℕ) → n < 1000000 → length (decimal n) ≤ 6
+digits-6 n l = length-more 5 n (λ _. digits-5 (n / 10) (omega arith)) (omega arith)
+
+pub digits-7 : (n : ℕ) → n < 10000000 → length (decimal n) ≤ 7
+digits-7 n l = length-more 6 n (λ _. digits-6 (n / 10) (omega arith)) (omega arith)

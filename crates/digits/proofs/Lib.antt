@@ -2,5 +2,7 @@
 pub mod Due
 -- decimal digits, and how many there are: decimal-one, decimal-more, digits-4
 pub mod Decimals
+-- how long a number behind a space is, and a list of parts: spaced-3, .., each-room
+pub mod Room
 -- a line of numbers, part by part: numbers-line
 pub mod NumberLine

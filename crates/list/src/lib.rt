@@ -27,7 +27,7 @@ use text::write_refusal;
 const FILE_WORDS: usize = LONGER_FILE / 2;
 
 // The most words of a bounded sheet: no build in such a row, and with the most cells of a work area, answers 21 or 22.
-const MOST_WORDS: usize = HEADER_WORDS + 3 * MOST_COPIES + 2 * MOST_BOUNDED_EDGES;
+pub const MOST_WORDS: usize = HEADER_WORDS + 3 * MOST_COPIES + 2 * MOST_BOUNDED_EDGES;
 
 // The listing of the bounded sheet with which a row begins.
 fn list_built(row: &[u16], text: &mut [u8]) -> usize

@@ -1,5 +1,5 @@
 -- How long the texts are at most: a heading 34 bytes, a copy's line 13 and 5 for each target, a refusal 14.
--- Rests on base Lists, formats Listing, digits Spaced and Decimals, specs Texts, Lines, Kept.
+-- Rests on base Lists, formats Listing, digits Spaced, Decimals and Room, specs Texts, Lines, Kept.
 use mathlib.Core.Path.{_≡_, refl}
 use mathlib.Core.List.{List, [], _∷_, List·Memᴰ, List·Memᴰ·head, List·Memᴰ·tail, Memᴰ·of-map}
 use Prim.Native.Nat.{ℕ, _+_, _*_, _≤_, _<_}
@@ -13,30 +13,15 @@ use Rattle.formats.specs.Rule11.{boundedRefusal}
 use Rattle.formats.specs.Listing.{headingLine, copyLine, listingOf, refusalOf}
 use Rattle.digits.specs.Spaced.{spaced}
 use Rattle.text.specs.Texts.{listingRoom, refusalRoom, copyLines}
-use Rattle.digits.proofs.Decimals.{digits-3, digits-4, digits-5}
+use Rattle.digits.proofs.Decimals.{digits-4}
+use Rattle.digits.proofs.Room.{spaced-3, spaced-4, spaced-5, each-room}
 use Rattle.text.proofs.Lines.{copiesText, edgesText, budgetText, refusedText, heading-length, copy-length, refusal-length}
 use Rattle.text.proofs.Kept.{copies-most, edges-most, budget-most, all-edges, block-most, low-most, target-most}
 
-spaced-3 : (n : ℕ) → n < 1000 → length (spaced n) ≤ 4
-unfolding spaced
-spaced-3 n l = omega (arith, digits-3 n l)
-
-spaced-4 : (n : ℕ) → n < 10000 → length (spaced n) ≤ 5
-unfolding spaced
-spaced-4 n l = omega (arith, digits-4 n l)
-
-spaced-5 : (n : ℕ) → n < 100000 → length (spaced n) ≤ 6
-unfolding spaced
-spaced-5 n l = omega (arith, digits-5 n l)
-
--- lists of parts, each with a bound
 targets-room : (ts : List ℕ) → ((t : ℕ) → List·Memᴰ t ts → t ≤ mostCopies) → length (each spaced ts) ≤ 5 * length ts
-unfolding each
-targets-room [] f = omega arith
-targets-room (t ∷ ts) f =
-    let a = f t (List·Memᴰ·head refl) in
-    omega (arith, length-append (spaced t) (each spaced ts), spaced-4 t (omega arith), targets-room ts (λ x m. f x (List·Memᴰ·tail m)))
+targets-room ts f = each-room spaced 5 ts (λ t m. spaced-4 t (omega (arith, f t m)))
 
+-- lines, each with a bound
 module _ (f g : ℕ → List ℕ) where
   lines-room : (is : List ℕ) → ((i : ℕ) → List·Memᴰ i is → length (f i) ≤ 13 + 5 * length (g i))
       → length (each f is) ≤ 13 * length is + 5 * length (each g is)

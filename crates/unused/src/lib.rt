@@ -25,7 +25,7 @@ fn first_mark(i: usize, n: usize) -> u8
 }
 
 // Marks the blocks 1 to n, and no other.
-fn mark_first(marks: &mut [u8], n: usize)
+pub fn mark_first(marks: &mut [u8], n: usize)
     requires { ⌜ length (now marks) ≡ mostBlocks ⌝ }
     ensures { λ _. ⌜ First n (now (marks .exit)) ⌝ }
 {

@@ -1,0 +1,25 @@
+-- What a report says of a sheet, in what the code answers and leaves: its figures, its line and the marks of its unused blocks.
+-- Rests on formats Limits and Report, unused Marks.
+use mathlib.Core.Path.{_≡_}
+use mathlib.Core.List.{List}
+use Prim.Native.Nat.{ℕ, _≤_}
+use lib.ListN.{length, take}
+use Rattle.formats.specs.Limits.{mostBlocks, mostCopies, mostBoundedEdges}
+use Rattle.formats.specs.Report.{Figures, sheetLine}
+use Rattle.unused.specs.Marks.{markedBlocks}
+use Rattle.figures.specs.declared.Reported.{Reported}
+
+-- of the sheet at place p, with the figures f
+pub record Says (f : Figures) (p : ℕ) (r : Reported) (marks text : List ℕ) : Type 0 where
+  pub blocks : r .blocks ≡ f .blocks
+  pub copies : r .copies ≡ f .copies
+  pub edges : r .edges ≡ f .edges
+  pub unused : markedBlocks marks ≡ f .unused
+  pub line : take (r .size) text ≡ sheetLine p f
+  pub inside : r .size ≤ length text
+
+-- no more than the limits allow
+pub record Small (r : Reported) : Type 0 where
+  pub blocks : r .blocks ≤ mostBlocks
+  pub copies : r .copies ≤ mostCopies
+  pub edges : r .edges ≤ mostBoundedEdges

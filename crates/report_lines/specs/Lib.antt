@@ -1,0 +1,2 @@
+-- the room that lines take, and the end of a line
+pub mod Lines
