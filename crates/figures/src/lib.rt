@@ -17,10 +17,10 @@ ghost use Rattle.figures.specs.Says.{Says, Small};
 use bounded_words::copies;
 use bounded_words::edges;
 use build::build;
-use graph_words::HEADER_WORDS;
 use graph_words::MOST_CELLS;
 use graph_words::blocks;
 use list::MOST_WORDS;
+use list::front_sheet;
 use report_lines::write_figures;
 use report_lines::write_refused;
 use unused::mark_first;
@@ -62,10 +62,10 @@ fn report_built(
     ensures { λ r. ⌜ Says (acceptedFigures (now (words .entry))) place r (now (marks .exit)) (now (text .exit)) × Small r ⌝ }
 {
     let n = blocks(words);
-    let c = copies(row);
-    let f = edges(row);
-    let size = HEADER_WORDS + 3 * c + 2 * f;
-    mark_unused(&row[..size], n, marks);
+    let t = front_sheet(row);
+    mark_unused(t, n, marks);
+    let c = copies(t);
+    let f = edges(t);
     let k = write_figures(text, place, n, c, f);
     Reported { blocks: n, copies: c, edges: f, size: k }
 }

@@ -29,17 +29,26 @@ const FILE_WORDS: usize = LONGER_FILE / 2;
 // The most words of a bounded sheet: no build in such a row, and with the most cells of a work area, answers 21 or 22.
 pub const MOST_WORDS: usize = HEADER_WORDS + 3 * MOST_COPIES + 2 * MOST_BOUNDED_EDGES;
 
-// The listing of the bounded sheet with which a row begins.
+// The bounded sheet with which a row begins, as long as its header says.
+pub fn front_sheet(row: &[u16]) -> &[u16]
+    requires { ⌜ boundedLength (heading (now row)) ≤ length (now row) ⌝ }
+    ensures { λ r. ⌜ now r ≡ frontSheet (now (row .entry)) ⌝ }
+{
+    let c = copies(row);
+    let f = edges(row);
+    let size = HEADER_WORDS + 3 * c + 2 * f;
+    &row[..size]
+}
+
+// Its listing.
 fn list_built(row: &[u16], text: &mut [u8]) -> usize
     requires { ⌜ boundedLength (heading (now row)) ≤ length (now row) ⌝ }
     requires { ⌜ boundedRefusal (frontSheet (now row)) ≡ 0 ⌝ }
     requires { ⌜ listingRoom ≤ length (now text) ⌝ }
     ensures { λ r. ⌜ (take r (now (text .exit)) ≡ listingOf (frontSheet (now (row .entry)))) × (r ≤ length (now (text .exit))) ⌝ }
 {
-    let c = copies(row);
-    let f = edges(row);
-    let size = HEADER_WORDS + 3 * c + 2 * f;
-    write_listing(&row[..size], text)
+    let s = front_sheet(row);
+    write_listing(s, text)
 }
 
 // The listing of a graph sheet, in rows that are lent.

@@ -44,3 +44,10 @@ module _ (n : ℕ) (t : List ℕ) {old new : List ℕ} (F : First n old) (U : Un
   pub names-unused : n ≤ mostBlocks → markedBlocks new ≡ unusedBlocks n t
   unfolding markedBlocks unusedBlocks
   names-unused l = keep-front free (marked new) n mostBlocks 1 l (λ v p q. inside v p q l) outside
+
+-- where no block is marked, none is named
+pub names-none : {ms : List ℕ} → First 0 ms → markedBlocks ms ≡ []
+unfolding markedBlocks keep from
+names-none {ms} F =
+    keep-front (marked ms) (marked ms) 0 mostBlocks 1 (omega arith) (λ v p q. refl)
+    (λ v p q. F .is v (omega arith) (omega arith) ∙ lt-leb v 0 (omega arith))
