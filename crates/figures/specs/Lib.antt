@@ -1,2 +1,2 @@
--- what a report says of a sheet, in the rows that are lent: Says, Small
+-- what a report says of a sheet, in the rows that are lent: Says, Reports, Small
 pub mod Says

@@ -1,11 +1,16 @@
 -- What a report says of a sheet, in what the code answers and leaves: its figures, its line and the marks of its unused blocks.
--- Rests on formats Limits and Report, unused Marks.
+-- Rests on formats Limits, File and Report, calls Report, file_words Longer, unused Marks.
 use mathlib.Core.Path.{_≡_}
+use mathlib.Core.Bool.{Bool, true, false}
 use mathlib.Core.List.{List}
+use mathlib.Core.Option.{some, none}
 use Prim.Native.Nat.{ℕ, _≤_}
 use lib.ListN.{length, take}
 use Rattle.formats.specs.Limits.{mostBlocks, mostCopies, mostBoundedEdges}
+use Rattle.formats.specs.File.{wordsOf}
 use Rattle.formats.specs.Report.{Figures, sheetLine}
+use Rattle.calls.specs.Report.{figures}
+use Rattle.file_words.specs.Longer.{longerFile}
 use Rattle.unused.specs.Marks.{markedBlocks}
 use Rattle.figures.specs.declared.Reported.{Reported}
 
@@ -17,6 +22,11 @@ pub record Says (f : Figures) (p : ℕ) (r : Reported) (marks text : List ℕ) :
   pub unused : markedBlocks marks ≡ f .unused
   pub line : take (r .size) text ≡ sheetLine p f
   pub inside : r .size ≤ length text
+
+-- bs is as much of the bytes of a sheet as is read, cut whether its length was beyond the words left
+pub record Reports (bs : List ℕ) (cut : Bool) (p : ℕ) (r : Reported) (marks text : List ℕ) : Type 0 where
+  pub beyond : cut ≡ true → Says (figures none) p r marks text
+  pub whole : (fs : List ℕ) → cut ≡ false → bs ≡ take longerFile fs → Says (figures (some (wordsOf fs))) p r marks text
 
 -- no more than the limits allow
 pub record Small (r : Reported) : Type 0 where

@@ -11,14 +11,17 @@ ghost use Rattle.formats.specs.Report.{refusedAs};
 ghost use Rattle.calls.specs.SheetGraph.{boundedSheet};
 ghost use Rattle.calls.specs.Program.{listingOrder};
 ghost use Rattle.calls.specs.Report.{acceptedFigures, figures};
+ghost use Rattle.file_words.specs.Longer.{longerFile};
 ghost use Rattle.list.specs.Rows.{mostCells, mostWords, frontSheet};
 ghost use Rattle.report_lines.specs.Lines.{numberLimit, lineRoom};
-ghost use Rattle.figures.specs.Says.{Says, Small};
+ghost use Rattle.figures.specs.Says.{Says, Reports, Small};
 use bounded_words::copies;
 use bounded_words::edges;
 use build::build;
+use file_words::words_of;
 use graph_words::MOST_CELLS;
 use graph_words::blocks;
+use list::FILE_WORDS;
 use list::MOST_WORDS;
 use list::front_sheet;
 use report_lines::write_figures;
@@ -93,7 +96,7 @@ fn report_in_rows(
 }
 
 // What is said of the graph sheet at a place of a catalogue; the rows are local, once.
-pub fn report_sheet(words: &[u16], place: usize, marks: &mut [u8], text: &mut [u8]) -> Reported
+fn report_sheet(words: &[u16], place: usize, marks: &mut [u8], text: &mut [u8]) -> Reported
     requires { ⌜ place < numberLimit ⌝ }
     requires { ⌜ length (now marks) ≡ mostBlocks ⌝ }
     requires { ⌜ lineRoom ≤ length (now text) ⌝ }
@@ -105,11 +108,34 @@ pub fn report_sheet(words: &[u16], place: usize, marks: &mut [u8], text: &mut [u
 }
 
 // What is said of a length beyond the words left.
-pub fn report_cut(place: usize, marks: &mut [u8], text: &mut [u8]) -> Reported
+fn report_cut(place: usize, marks: &mut [u8], text: &mut [u8]) -> Reported
     requires { ⌜ place < numberLimit ⌝ }
     requires { ⌜ length (now marks) ≡ mostBlocks ⌝ }
     requires { ⌜ lineRoom ≤ length (now text) ⌝ }
     ensures { λ r. ⌜ Says (figures none) place r (now (marks .exit)) (now (text .exit)) × Small r ⌝ }
 {
     report_refused(3, place, marks, text)
+}
+
+// What is said of the sheet at a place of a catalogue, from its first bytes and whether its length was beyond the words left.
+pub fn report_item(
+    bytes: &[u8],
+    cut: bool,
+    place: usize,
+    marks: &mut [u8],
+    text: &mut [u8],
+) -> Reported
+    requires { ⌜ length (now bytes) ≤ longerFile ⌝ }
+    requires { ⌜ place < numberLimit ⌝ }
+    requires { ⌜ length (now marks) ≡ mostBlocks ⌝ }
+    requires { ⌜ lineRoom ≤ length (now text) ⌝ }
+    ensures { λ r. ⌜ Reports (now (bytes .entry)) cut place r (now (marks .exit)) (now (text .exit)) ⌝ }
+    ensures { λ r. ⌜ (r .size ≤ length (now (text .exit))) × Small r ⌝ }
+{
+    if cut {
+        return report_cut(place, marks, text);
+    }
+    let mut words = [0u16; FILE_WORDS];
+    let n = words_of(bytes, &mut words);
+    report_sheet(&words[..n], place, marks, text)
 }

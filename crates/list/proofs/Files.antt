@@ -33,12 +33,9 @@ module _ (w : List ℕ) where
   sheet-listed e = rw (e, sheetListing)
 
 -- sheets with the same refusal
-same-listing : (v w : List ℕ) → sheetRefusal v ≡ sheetRefusal w → (sheetRefusal v ≡ 0 → ⊥) → sheetListing v ≡ sheetListing w
-unfolding sheetRefusal listingOrder
-same-listing v w e n =
-    let m : refused sheetOrder w ≡ 0 → ⊥ = λ z. n (e ∙ z) in
-    sheet-refused v (sheetRefusal v) (append-stops sheetOrder _ v n) n
-    ∙ sym (sheet-refused w (sheetRefusal v) (append-stops sheetOrder _ w m ∙ sym e) n)
+same-listing : (v w : List ℕ) → refused listingOrder v ≡ refused listingOrder w → (refused listingOrder v ≡ 0 → ⊥)
+    → sheetListing v ≡ sheetListing w
+same-listing v w e n = sheet-refused v _ refl n ∙ sym (sheet-refused w _ (sym e) n)
 
 -- A FILE
 words-length : (bs : List ℕ) → length (wordsOf bs) ≡ length bs / 2
@@ -49,17 +46,24 @@ words-length bs = first-length bs (length bs / 2)
 pub words-first : (bs row rest : List ℕ) (n : ℕ) → row ≡ wordsOf bs ++ rest → n ≡ length bs / 2 → take n row ≡ wordsOf bs
 words-first bs row rest n e q = ap (take n) e ∙ take-at (wordsOf bs) rest n (words-length bs ∙ sym q)
 
--- the first bytes have the listing of all
-front-listing : (fs : List ℕ) → sheetListing (wordsOf (take longerFile fs)) ≡ sheetListing (wordsOf fs)
-front-listing fs = go (ltb (length fs) longerFile) refl
-  where
-    go : (b : Bool) → ltb (length fs) longerFile ≡ b → sheetListing (wordsOf (take longerFile fs)) ≡ sheetListing (wordsOf fs)
-    go true e =
-        let l = ltb-true (length fs) longerFile e in
-        ap (λ (bs : List ℕ). sheetListing (wordsOf bs)) (take-all longerFile fs (omega arith))
-    go false e =
-        let r = long-file fs (ltb-false (length fs) longerFile e) in
-        sym (same-listing (wordsOf fs) (wordsOf (take longerFile fs)) (r .0) (r .1))
+-- what goes by the refusal of a refused sheet is the same for the first bytes and for all
+module _ {A : Type 0} (f : List ℕ → A)
+    (same : (v w : List ℕ) → refused listingOrder v ≡ refused listingOrder w → (refused listingOrder v ≡ 0 → ⊥) → f v ≡ f w) where
+  pub front-same : (fs : List ℕ) → f (wordsOf (take longerFile fs)) ≡ f (wordsOf fs)
+  unfolding sheetRefusal listingOrder
+  front-same fs = go (ltb (length fs) longerFile) refl
+    where
+      go : (b : Bool) → ltb (length fs) longerFile ≡ b → f (wordsOf (take longerFile fs)) ≡ f (wordsOf fs)
+      go true e =
+          let l = ltb-true (length fs) longerFile e in
+          ap (λ (bs : List ℕ). f (wordsOf bs)) (take-all longerFile fs (omega arith))
+      go false e =
+          let v = wordsOf fs in
+          let w = wordsOf (take longerFile fs) in
+          let r = long-file fs (ltb-false (length fs) longerFile e) in
+          let a = append-stops sheetOrder _ v (r .1) in
+          let b = append-stops sheetOrder _ w (λ z. r .1 (r .0 ∙ z)) in
+          sym (same v w (a ∙ r .0 ∙ sym b) (λ z. r .1 (sym a ∙ z)))
 
 module _ (bs t : List ℕ) where
   pub lists-odd : {odd : Bool} → odd ≡ true → t ≡ refusalOf 1 → Lists bs odd t
@@ -70,5 +74,5 @@ module _ (bs t : List ℕ) where
   unfolding listing
   lists-even q e = record {
     whole = λ fs p o.
-        rw (sym o ∙ q, listing) (e ∙ ap (λ (x : List ℕ). sheetListing (wordsOf x)) p ∙ front-listing fs);
+        rw (sym o ∙ q, listing) (e ∙ ap (λ (x : List ℕ). sheetListing (wordsOf x)) p ∙ front-same sheetListing same-listing fs);
   }

@@ -24,7 +24,7 @@ use text::write_listing;
 use text::write_refusal;
 
 // The words of as many bytes as are read of a file.
-const FILE_WORDS: usize = LONGER_FILE / 2;
+pub const FILE_WORDS: usize = LONGER_FILE / 2;
 
 // The most words of a bounded sheet: no build in such a row, and with the most cells of a work area, answers 21 or 22.
 pub const MOST_WORDS: usize = HEADER_WORDS + 3 * MOST_COPIES + 2 * MOST_BOUNDED_EDGES;
