@@ -5,7 +5,7 @@ use crate::graph::{graph_sheet, paper_example};
 use crate::random::{damaged_graph, graph_near_the_limits, valid_graph, Random, Size};
 
 /// Block 3 with a cost, its successors, and the start to it.
-fn one_block(cost: u16, successors: &[u16], budget: u16) -> Vec<u16> {
+pub(crate) fn one_block(cost: u16, successors: &[u16], budget: u16) -> Vec<u16> {
     graph_sheet(&[0, 0, cost], &[vec![3], vec![], successors.to_vec()], budget)
 }
 

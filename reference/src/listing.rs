@@ -4,8 +4,8 @@
 use crate::construction::build;
 
 /// Enough for any accepted sheet: 128 blocks and budget 500; 4,096 copies and 8,192 edges.
-const LARGEST_AREA: usize = 128 * 501;
-const LARGEST_OUTPUT: usize = 3 + 3 * 4096 + 2 * 8192;
+pub(crate) const LARGEST_AREA: usize = 128 * 501;
+pub(crate) const LARGEST_OUTPUT: usize = 3 + 3 * 4096 + 2 * 8192;
 
 /// The listing, or `refused` and the number. Every line ends with a newline.
 pub fn listing(bytes: &[u8]) -> String {

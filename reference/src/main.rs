@@ -1,16 +1,40 @@
-// The command line tool: a listing, a build, random cases, a corpus of sheets and its listings; see USAGE.
+// The command line tool: a listing, a build, a report, random cases, corpora and catalogues of sheets; see USAGE.
 // It rests on the library and its random material; it prints what the library answers.
 
-use reference::corpus;
+use reference::{catalogue, corpus};
 use reference::random::{self, area_length, bounded_words, graph_words, length_near, Random, Size};
 use reference::{
-    bounded_move, build, check_bounded, check_graph, edge_words, listing, monitored_move,
+    bounded_move, build, check_bounded, check_graph, edge_words, listing, monitored_move, report,
     successor_count, End, Monitor, Walk,
 };
 use std::io::{self, BufWriter, Read, Write};
 use std::process::ExitCode;
 
-const USAGE: &str = "usage: reference listing < sheet\n       reference build < decimal words\n       reference corpus SEED COUNT > sheets\n       reference worst > sheets\n       reference listings < sheets\n       reference cases SEED COUNT tiny|small|any";
+const USAGE: &str = "usage: reference listing < sheet
+       reference build < decimal words
+       reference report < catalogue
+       reference corpus SEED COUNT > sheets
+       reference worst > sheets
+       reference listings < sheets
+       reference catalogue SEED COUNT > catalogue
+       reference catalogue_example > catalogue
+       reference cases SEED COUNT tiny|small|any [KIND]";
+
+/// A kind of case: its name, and what makes one as fields of a line.
+type Kind = (&'static str, fn(&mut Random, Size) -> Vec<String>);
+
+/// The kinds in the order in which they take turns.
+const KINDS: [Kind; 9] = [
+    ("graph", graph_case),
+    ("count", count_case),
+    ("build", build_case),
+    ("bounded", bounded_case),
+    ("monitored", monitored_case),
+    ("move", move_case),
+    ("part", part_case),
+    ("run", run_case),
+    ("report", report_case),
+];
 
 fn main() -> ExitCode {
     let arguments: Vec<String> = std::env::args().skip(1).collect();
@@ -18,16 +42,25 @@ fn main() -> ExitCode {
     let done = match arguments[..] {
         ["listing"] => print_listing(),
         ["build"] => print_build(),
+        ["report"] => print_report(),
         ["listings"] => print_listings(),
         ["worst"] => io::stdout().lock().write_all(&corpus::encoded(&corpus::worst())),
         ["corpus", seed, count] => match (seed.parse(), count.parse()) {
             (Ok(seed), Ok(count)) => io::stdout().lock().write_all(&corpus::encoded(&corpus::corpus(seed, count))),
             _ => return usage(),
         },
-        ["cases", seed, count, size] => match (seed.parse(), count.parse(), size_named(size)) {
-            (Ok(seed), Ok(count), Some(size)) => print_cases(seed, count, size),
+        ["catalogue_example"] => io::stdout().lock().write_all(&catalogue::example()),
+        ["catalogue", seed, count] => match (seed.parse(), count.parse()) {
+            (Ok(seed), Ok(count)) => io::stdout().lock().write_all(&catalogue::catalogue(seed, count)),
             _ => return usage(),
         },
+        ["cases", seed, count, size] | ["cases", seed, count, size, _] => {
+            let kinds: Vec<_> = KINDS.iter().filter(|(name, _)| arguments.get(4).map_or(true, |kind| kind == name)).collect();
+            match (seed.parse(), count.parse(), size_named(size)) {
+                (Ok(seed), Ok(count), Some(size)) if !kinds.is_empty() => print_cases(seed, count, size, &kinds),
+                _ => return usage(),
+            }
+        }
         _ => return usage(),
     };
     match done {
@@ -60,6 +93,12 @@ fn print_listing() -> io::Result<()> {
     io::stdout().lock().write_all(listing(&bytes).as_bytes())
 }
 
+fn print_report() -> io::Result<()> {
+    let mut bytes = Vec::new();
+    io::stdin().lock().read_to_end(&mut bytes)?;
+    io::stdout().lock().write_all(report(&bytes).as_bytes())
+}
+
 /// The listing of each sheet of a corpus file.
 fn print_listings() -> io::Result<()> {
     let mut bytes = Vec::new();
@@ -85,20 +124,14 @@ fn print_build() -> io::Result<()> {
     Ok(())
 }
 
-fn print_cases(seed: u64, count: usize, size: Size) -> io::Result<()> {
+/// The kinds take turns. Catalogues have a generator of their own, so that they leave the other cases of a seed as they are.
+fn print_cases(seed: u64, count: usize, size: Size, kinds: &[&Kind]) -> io::Result<()> {
     let mut random = Random::new(seed);
+    let mut of_catalogues = Random::new(seed);
     let mut out = BufWriter::new(io::stdout().lock());
     for index in 0..count {
-        let fields = match index % 8 {
-            0 => graph_case(&mut random, size),
-            1 => count_case(&mut random, size),
-            2 => build_case(&mut random, size),
-            3 => bounded_case(&mut random, size),
-            4 => monitored_case(&mut random, size),
-            5 => move_case(&mut random, size),
-            6 => part_case(&mut random, size),
-            _ => run_case(&mut random, size),
-        };
+        let (name, case) = kinds[index % kinds.len()];
+        let fields = case(if *name == "report" { &mut of_catalogues } else { &mut random }, size);
         writeln!(out, "{}", fields.join("\t"))?;
     }
     out.flush()
@@ -239,4 +272,10 @@ fn run_case(random: &mut Random, size: Size) -> Vec<String> {
         }
     }
     vec!["run".into(), row(&words), row(&choices), row(&answers), walk_text(state)]
+}
+
+/// The bytes of a catalogue, and the bytes of its report.
+fn report_case(random: &mut Random, size: Size) -> Vec<String> {
+    let bytes = catalogue::short_catalogue(random, size);
+    vec!["report".into(), row(&bytes), row(report(&bytes).as_bytes())]
 }

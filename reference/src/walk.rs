@@ -1,7 +1,8 @@
 // Walks: the monitored move on a graph sheet, the bounded move on a bounded sheet, and the monitor.
-// It rests on graph.rs, construction.rs, bounded.rs and the sections on walks and on the list of choices.
+// It rests on graph.rs, construction.rs, cheapest.rs, bounded.rs and the sections on walks and on the list of choices.
 
 use crate::bounded::Bounded;
+use crate::cheapest::cheapest_completions;
 use crate::construction::Completions;
 use crate::graph::Graph;
 
@@ -133,8 +134,8 @@ pub fn bounded_move(words: &[u16], walk: Walk, choice: u32) -> (u16, Walk) {
     (0, after)
 }
 
-/// The plain monitor of one graph sheet. It knows of each block its cheapest completion, found
-/// by relaxing the edges until nothing changes, and nothing that a build or a walk has written.
+/// The plain monitor of one graph sheet. It knows of each block its cheapest completion, and
+/// nothing that a build or a walk has written.
 pub struct Monitor {
     graph: Graph,
     cheapest: Vec<Option<usize>>,
@@ -144,23 +145,7 @@ impl Monitor {
     /// The monitor of an accepted sheet, or the number of the sheet's refusal (1 to 8).
     pub fn new(words: &[u16]) -> Result<Monitor, u16> {
         let graph = Graph::read(words)?;
-        let mut cheapest: Vec<Option<usize>> = vec![None; graph.blocks + 1];
-        cheapest[2] = Some(0);
-        let mut changed = true;
-        while changed {
-            changed = false;
-            for block in 1..=graph.blocks {
-                for next in graph.successors(block) {
-                    if let Some(rest) = cheapest[*next] {
-                        let cost = graph.cost(block) + rest;
-                        if cheapest[block].map_or(true, |known| cost < known) {
-                            cheapest[block] = Some(cost);
-                            changed = true;
-                        }
-                    }
-                }
-            }
-        }
+        let cheapest = cheapest_completions(&graph);
         Ok(Monitor { graph, cheapest })
     }
 

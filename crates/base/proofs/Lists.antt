@@ -6,12 +6,13 @@ use mathlib.Core.Bool.{Bool, true, false}
 use mathlib.Core.List.{List, [], _∷_, _++_, map, List·Memᴰ, List·Memᴰ·head, List·Memᴰ·tail, List·Memᴰ·not-nil, List·Memᴰ·cases-cons}
 use mathlib.Core.List.{Memᴰ·append-left, Memᴰ·append-right, List·Memᴰ·append-cases, Memᴰ·cast}
 use mathlib.Core.Option.{Option, some, none, Option·map, Option·none-ne-some, Option·some-injective}
-use Prim.Native.Nat.{ℕ, zero, suc, _+_, _≤_, _<_}
+use Prim.Native.Nat.{ℕ, zero, suc, _+_, _-_, _≤_, _<_}
 use native.Mathlib.Omega.{arith}
 use native.Mathlib.Decide.{ℕ-discrete}
 use borrow.Author.Tests.{eqb-true, eq-eqb}
 use lib.Dec.{eqb}
-use lib.ListN.{length, take}
+use lib.ListN.{length, take, drop, length-drop}
+use lib.Seq.{length-take-le}
 use Rattle.base.specs.Lists.{each, keep, chosen, from, member}
 use Rattle.base.proofs.Truth.{not-both, any-i, any-e}
 
@@ -230,3 +231,9 @@ take-most zero m xs l = omega arith
 take-most (suc n) m [] l = omega arith
 take-most (suc n) zero (x ∷ xs) l = absurd (omega arith)
 take-most (suc n) (suc m) (x ∷ xs) l = let h = take-most n m xs (omega arith) in omega arith
+
+-- a part of k elements from a on
+pub part-length : {A : Type 0} (a k : ℕ) (xs : List A) → a + k ≤ length xs → length (take (a + k - a) (drop a xs)) ≡ k
+part-length a k xs l =
+    let q : a + k - a ≡ k = omega arith in
+    length-take-le (a + k - a) (drop a xs) (omega (arith, length-drop a xs)) ∙ q

@@ -5,7 +5,8 @@ use mathlib.Core.List.{List, [], _∷_, _++_, map, append-assoc}
 use Prim.Native.Nat.{ℕ, suc, _+_, _-_, _≤_, _<_}
 use native.Mathlib.Omega.{arith}
 use lib.ListN.{length, getD, take, drop, replicate, length-drop, length-append}
-use lib.Seq.{drop-cons, drop-drop, take-all, length-take-le}
+use lib.Seq.{drop-cons, drop-drop, take-all}
+use Rattle.base.proofs.Lists.{part-length as length-of-part}
 use Rattle.base.specs.Lists.{each}
 use Rattle.formats.specs.Listing.{decimal, line}
 use Rattle.digits.specs.Wrote.{Wrote}
@@ -111,9 +112,7 @@ module _ (ws : List ℕ) (n k : ℕ) where
       part = take (w + k - w) (drop w ws)
 
       pub part-length : length part ≡ k
-      part-length =
-          let q : w + k - w ≡ k = omega arith in
-          length-take-le (w + k - w) (drop w ws) (omega (arith, part-inside, length-drop w ws)) ∙ q
+      part-length = length-of-part w k ws part-inside
 
       abbrev later : List ℕ
       later = linesText (replicate (i - 1) k) (drop (w + k) ws)

@@ -46,7 +46,12 @@ fn report_refused(number: usize, place: usize, marks: &mut [u8], text: &mut [u8]
 {
     mark_first(marks, 0);
     let n = write_refused(text, place, number);
-    Reported { blocks: 0, copies: 0, edges: 0, size: n }
+    Reported {
+        blocks: 0,
+        copies: 0,
+        edges: 0,
+        size: n,
+    }
 }
 
 // What is said of an accepted graph sheet, whose bounded sheet stands at the front of a row.
@@ -70,7 +75,12 @@ fn report_built(
     let c = copies(t);
     let f = edges(t);
     let k = write_figures(text, place, n, c, f);
-    Reported { blocks: n, copies: c, edges: f, size: k }
+    Reported {
+        blocks: n,
+        copies: c,
+        edges: f,
+        size: k,
+    }
 }
 
 // What is said of a graph sheet, in rows that are lent.

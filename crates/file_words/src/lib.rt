@@ -13,7 +13,7 @@ use graph_words::MOST_EDGES;
 pub const LONGER_FILE: usize = 2 * (HEADER_WORDS + 2 * MOST_BLOCKS + 2 * MOST_EDGES + 1);
 
 // A word from its two bytes.
-fn joined(lower: u8, higher: u8) -> u16
+pub fn joined(lower: u8, higher: u8) -> u16
     ensures { λ r. ⌜ r ≡ lower + 256 * higher ⌝ }
 {
     lower as u16 + 256 * (higher as u16)

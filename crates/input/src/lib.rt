@@ -1,4 +1,4 @@
-// Standard input to its end: whether its number of bytes is odd.
+// Standard input to its end: whether its number of bytes is odd; and past some bytes.
 // Rests on io; no contract can say what is read.
 use libc::STDIN_FILENO;
 ghost use Prim.Native.Nat.{_≤_};
@@ -27,4 +27,38 @@ pub fn odd_at_the_end(before: bool) -> bool {
         turns -= 1;
     }
     odd
+}
+
+// The smaller of two numbers.
+pub fn least(a: usize, b: usize) -> usize
+    ensures { λ r. ⌜ (r ≤ a) × (r ≤ b) ⌝ }
+{
+    if a < b {
+        return a;
+    }
+    b
+}
+
+// Reads at most n bytes, and answers how many came.
+fn read_at_most(n: usize) -> usize
+    ensures { λ r. ⌜ r ≤ n ⌝ }
+{
+    let mut space = io::buffer();
+    let k = least(n, 4096);
+    io::read_full(STDIN_FILENO, &mut space[..k])
+}
+
+// Reads past at most n bytes, and answers how many there were.
+pub fn skip(n: usize) -> usize
+    ensures { λ r. ⌜ r ≤ n ⌝ }
+{
+    let mut left = n;
+    while left > 0 {
+        let m = read_at_most(left);
+        if m == 0 {
+            return n - left;
+        }
+        left -= m;
+    }
+    n
 }

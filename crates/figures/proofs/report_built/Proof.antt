@@ -13,8 +13,7 @@ blocks-requires c κs = let z = c .before .before .before .before in sheet-long 
 mark-unused-requires : tie.Need-mark-unused-requires
 mark-unused-requires c κs =
     let z = c .before .before .before .before .before .before .before in
-    let e = z .pre .0 in
-    (
+    let e = z .pre .0 in (
       rule-kept _ e (c .before .front-sheet .ensures ∙ z .pre .1 .0 .1),
       (omega (arith, blocks-most _ e, c .before .before .blocks2 .ensures .0), z .pre .1 .1 .1 .0),
     )
@@ -33,7 +32,7 @@ write-figures-requires c κs =
     let t = c .before .before .before .before .before .before .before in
     let z = t .before .before .before .before .before .before in
     let S = accepted-small _ (z .pre .0) (t .front-sheet .ensures ∙ z .pre .1 .0 .1) (t .before .blocks2 .ensures .0)
-            (c .before .before .copies .ensures .0) (c .before .edges .ensures .0) 0 in
+    (c .before .before .copies .ensures .0) (c .before .edges .ensures .0) 0 in
     (z .pre .1 .1 .1 .1, (z .pre .1 .1 .0, omega (arith, S .blocks), omega (arith, S .copies), omega (arith, S .edges)))
 
 returns : tie.Need-returns

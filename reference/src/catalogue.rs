@@ -1,0 +1,204 @@
+// Catalogues: the stored run's, and random ones. Each sheet is preceded by a word with its length in words.
+// It rests on corpus.rs and random.rs, and on cheapest.rs to put blocks on paths that just fit or just do not.
+
+use crate::cheapest::cheapest_ways;
+use crate::corpus::{at_the_limits, encoded, one_block, refusals};
+use crate::graph::{graph_sheet, paper_example, Graph};
+use crate::random::{buildable_graph, damaged_graph, graph_near_the_limits, valid_graph, Random, Size};
+
+/// 128 blocks and 512 edges: 1,283 words, the most that a sheet may have. Block 1 goes to 3 to 10, every other to the next block,
+/// the exit, itself and the exit.
+fn longest(costs: impl Fn(u16) -> u16, budget: u16) -> Vec<u16> {
+    let mut all_costs = vec![0, 0];
+    let mut successors = vec![(3..=10).collect(), vec![]];
+    for block in 3..=128 {
+        all_costs.push(costs(block));
+        successors.push(vec![if block == 128 { 2 } else { block + 1 }, 2, block, 2]);
+    }
+    graph_sheet(&all_costs, &successors, budget)
+}
+
+/// The sheet with this word in place of N and so many words, filled up with 0.
+fn lengthened(mut words: Vec<u16>, blocks: u16, length: usize) -> Vec<u16> {
+    words[0] = blocks;
+    words.resize(length, 0);
+    words
+}
+
+/// The catalogue of the program's stored run (crates/report/stdin); `reference catalogue_example` writes it.
+pub fn example() -> Vec<u8> {
+    // The paper's example, the loop, twice the same target, each refusal, an empty sheet.
+    let mut sheets: Vec<Vec<u16>> = [4, 5, 8, 9, 12].iter().map(|budget| paper_example(*budget)).collect();
+    sheets.extend([one_block(3, &[3, 2], 7), one_block(3, &[3, 2], 9), one_block(1, &[2, 2], 1)]);
+    sheets.extend(refusals());
+    sheets.push(vec![]);
+
+    // Blocks 4 and 5 out of reach.
+    sheets.push(graph_sheet(&[0, 0, 2, 1, 1], &[vec![3], vec![], vec![2], vec![5, 3], vec![2]], 8));
+    // Block 4 itself too dear by one cycle, then just within the budget.
+    let dear = |budget| graph_sheet(&[0, 0, 2, 9], &[vec![3, 4], vec![], vec![2], vec![2]], budget);
+    sheets.extend([dear(8), dear(9)]);
+    // Block 4 would fit by itself, but not after block 3.
+    sheets.push(graph_sheet(&[0, 0, 6, 3], &[vec![3], vec![], vec![4, 2], vec![2]], 8));
+    // Block 4 a dead end, 5 a loop with no way out, 6 dearer than any budget.
+    let ends = [vec![3], vec![], vec![4, 5, 6, 2], vec![], vec![5], vec![2]];
+    sheets.push(graph_sheet(&[0, 0, 1, 1, 1, 65535], &ends, 500));
+
+    // The greatest fraction, 403/3, twice: the second time as 806/6. Before and after them 402/3, equal when rounded.
+    let loops = |budget| one_block(1, &[3, 2], budget);
+    let two_loops = [vec![3, 4], vec![], vec![3, 2], vec![4, 2], vec![2], vec![]];
+    sheets.extend([loops(400), loops(401), graph_sheet(&[0, 0, 1, 1, 1, 1], &two_loops, 402), loops(400)]);
+    // So many at the limits of copies and edges that the totals do not fit a word.
+    sheets.extend(vec![at_the_limits(4, false); 16]);
+
+    // 1,283 words, accepted; one word more, refused 3; 129 blocks and their 1,285 words, refused 2; and on with the next sheet.
+    let full = longest(|block| 40 + 7 * block % 30, 300);
+    sheets.extend([full.clone(), lengthened(full.clone(), 128, 1284), lengthened(full, 129, 1285), paper_example(11)]);
+
+    // A sheet of 129 blocks without the upper byte of its last word: a length beyond the words left is 3, not 2; an odd last byte.
+    sheets.push(vec![129, 1, 0, 0, 1, 0, 0, 2, 0]);
+    let mut bytes = encoded(&sheets);
+    bytes.pop();
+    bytes
+}
+
+/// A graph whose build is accepted, with up to 4 more blocks: out of reach, dead ends, loops with no way out, and blocks on a path
+/// that costs B, a cycle less or more, or far more.
+fn with_more_blocks(random: &mut Random, size: Size) -> Vec<u16> {
+    let words = buildable_graph(random, size);
+    let Ok(graph) = Graph::read(&words) else {
+        return words;
+    };
+    let ways = cheapest_ways(&graph);
+    let reached: Vec<usize> = (1..=graph.blocks).filter(|block| *block != 2 && ways[*block].is_some()).collect();
+    let mut costs: Vec<u16> = (1..=graph.blocks).map(|block| graph.cost(block) as u16).collect();
+    let mut successors: Vec<Vec<u16>> =
+        (1..=graph.blocks).map(|block| graph.successors(block).iter().map(|target| *target as u16).collect()).collect();
+    for _ in 0..random.between(1, 4) {
+        let edges: usize = successors.iter().map(Vec::len).sum();
+        if costs.len() == 128 || edges > 510 {
+            break;
+        }
+        let block = costs.len() as u16 + 1;
+        let from = random.pick(&reached);
+        // What the budget leaves for the new block after the cheapest way through `from`.
+        let spent = ways[from].unwrap_or(0) + graph.cost(from);
+        let left = graph.budget.saturating_sub(spent);
+        let mut cost = random.between(1, 5);
+        let mut targets = Vec::new();
+        let kind = random.below(7);
+        match kind {
+            0 => targets.push(random.between(2, usize::from(block)) as u16),
+            1 => {}
+            2 => targets.push(block),
+            _ => {
+                cost = random.pick(&[left, left, left + 1, left + 1, left.saturating_sub(1), 65535]).max(1);
+                targets.push(2);
+            }
+        }
+        if kind != 0 {
+            let at = random.between(0, successors[from - 1].len());
+            successors[from - 1].insert(at, block);
+        }
+        costs.push(cost as u16);
+        successors.push(targets);
+    }
+    graph_sheet(&costs, &successors, graph.budget as u16)
+}
+
+/// A sheet of 1,282 words or more: at the limits of blocks and edges, or past them, or with words too many.
+fn long_sheet(random: &mut Random) -> Vec<u16> {
+    let (least, step) = (random.between(1, 80) as u16, random.between(0, 30) as u16);
+    let budget = random.pick(&[0, 100, 300, 499, 500, 501]) as u16;
+    let full = longest(|block| least + step * block % 60, budget);
+    let any = random.between(1284, 65535);
+    let far = random.pick(&[1284, 2000, any, any, 65535]);
+    match random.below(8) {
+        0 => full,
+        1 => lengthened(full, 128, random.pick(&[1282, 1284, 1285])),
+        2 => lengthened(full, 129, random.pick(&[1283, 1285, far])),
+        3 => lengthened(full, random.pick(&[0, 1, 127, 128, 128, 65535]) as u16, far),
+        4 => (0..far).map(|_| random.draw() as u16).collect(),
+        _ => {
+            let mut words = valid_graph(random, Size::Small);
+            words.resize(far, random.below(4) as u16);
+            words
+        }
+    }
+}
+
+/// The corpus's valid and damaged sheets, and those that only a catalogue has.
+fn any_sheet(random: &mut Random, earlier: &[Vec<u16>]) -> Vec<u16> {
+    match random.below(100) {
+        0..=2 => vec![],
+        3 => (0..random.below(40)).map(|_| random.draw() as u16).collect(),
+        4..=6 => long_sheet(random),
+        7 => graph_near_the_limits(random),
+        // One that was there before: an equal fraction.
+        8..=13 if !earlier.is_empty() => earlier[random.below(earlier.len())].clone(),
+        8..=25 => with_more_blocks(random, Size::Small),
+        26..=30 => with_more_blocks(random, Size::Any),
+        31..=40 => with_more_blocks(random, Size::Tiny),
+        41..=48 => valid_graph(random, Size::Any),
+        49..=62 => valid_graph(random, Size::Small),
+        63..=72 => valid_graph(random, Size::Tiny),
+        73..=75 => damaged_graph(random, Size::Any),
+        76..=85 => damaged_graph(random, Size::Small),
+        _ => damaged_graph(random, Size::Tiny),
+    }
+}
+
+/// How a catalogue ends: mostly with its last sheet; else cut through it, or with a length and fewer words; now and then an odd byte.
+fn ended(random: &mut Random, mut bytes: Vec<u8>) -> Vec<u8> {
+    match random.below(10) {
+        0 => bytes.truncate(bytes.len().saturating_sub(random.between(1, 3))),
+        1 => bytes.truncate(random.between(0, bytes.len())),
+        2 | 3 => {
+            let words = random.below(6);
+            let length = words + random.pick(&[1, 1, 2, 7, 65535 - words]);
+            bytes.extend((length as u16).to_le_bytes());
+            bytes.extend((0..words).flat_map(|_| [random.below(5) as u8, 0]));
+        }
+        _ => {}
+    }
+    if random.chance(20) {
+        bytes.push(random.draw() as u8);
+    }
+    bytes
+}
+
+/// A random catalogue of about `count` sheets; now and then of none, or of 200 and more, or near the limits, with great totals.
+pub fn catalogue(seed: u64, count: usize) -> Vec<u8> {
+    let mut random = Random::new(seed);
+    // How many sheets, and how many of a hundred are near the limits.
+    let (number, near_the_limits) = match random.below(16) {
+        0 => (random.below(3), 0),
+        1 => (random.pick(&[199, 200, 201, 202, 240]), 0),
+        2 => (random.between(40, 80), 80),
+        _ => (random.between(count - count / 2, count + count / 2), 0),
+    };
+    let mut sheets = Vec::new();
+    while sheets.len() < number {
+        let near = random.chance(near_the_limits);
+        let sheet = if near { graph_near_the_limits(&mut random) } else { any_sheet(&mut random, &sheets) };
+        sheets.push(sheet);
+    }
+    ended(&mut random, encoded(&sheets))
+}
+
+/// A random catalogue of at most 3 sheets of this size.
+pub fn short_catalogue(random: &mut Random, size: Size) -> Vec<u8> {
+    let mut sheets: Vec<Vec<u16>> = Vec::new();
+    for _ in 0..random.below(4) {
+        let sheet = match random.below(12) {
+            0 => vec![],
+            1 | 2 if !sheets.is_empty() => sheets[0].clone(),
+            1..=4 => with_more_blocks(random, size),
+            5 | 6 => buildable_graph(random, size),
+            7 | 8 => valid_graph(random, size),
+            _ => damaged_graph(random, size),
+        };
+        sheets.push(sheet);
+    }
+    ended(random, encoded(&sheets))
+}

@@ -1,0 +1,118 @@
+// The report of a catalogue: figures of each sheet, totals, the greatest fraction of copies to blocks, the blocks that no kept path enters.
+// It rests on construction.rs for copies and edges, on cheapest.rs for the kept paths, and on request K1 of document 02.
+
+use crate::cheapest::{cheapest_completions, cheapest_ways};
+use crate::construction::build;
+use crate::graph::Graph;
+use crate::listing::{LARGEST_AREA, LARGEST_OUTPUT};
+
+const MOST_SHEETS: usize = 200;
+
+/// The sheets of a catalogue, each after its length; none for a last one whose length is beyond the words left.
+/// Words after 200 sheets and an odd last byte are ignored.
+pub fn catalogue_sheets(bytes: &[u8]) -> Vec<Option<Vec<u16>>> {
+    let words: Vec<u16> =
+        bytes.chunks_exact(2).map(|pair| u16::from(pair[0]) + 256 * u16::from(pair[1])).collect();
+    let mut sheets = Vec::new();
+    let mut left = &words[..];
+    while sheets.len() < MOST_SHEETS && !left.is_empty() {
+        let length = usize::from(left[0]);
+        left = &left[1..];
+        if length > left.len() {
+            sheets.push(None);
+            break;
+        }
+        sheets.push(Some(left[..length].to_vec()));
+        left = &left[length..];
+    }
+    sheets
+}
+
+/// What the report says of an accepted sheet.
+struct Figures {
+    blocks: usize,
+    copies: usize,
+    edges: usize,
+    unused: Vec<usize>,
+}
+
+/// The figures of a sheet, or the number of its refusal: 3 for a length beyond the words left, else the build's.
+fn figures(sheet: Option<Vec<u16>>) -> Result<Figures, u16> {
+    let words = sheet.ok_or(3_u16)?;
+    let built = build(&words, &vec![0; LARGEST_AREA], &vec![0; LARGEST_OUTPUT]);
+    if built.answer != 0 {
+        return Err(built.answer);
+    }
+    let graph = Graph::read(&words)?;
+    Ok(Figures {
+        blocks: graph.blocks,
+        copies: usize::from(built.output[0]),
+        edges: usize::from(built.output[1]),
+        unused: blocks_not_entered(&graph),
+    })
+}
+
+/// The blocks, rising, that no path from block 1 to block 2 costing at most B enters. The cheapest path through a block is the
+/// cheapest way to it and then its cheapest completion.
+fn blocks_not_entered(graph: &Graph) -> Vec<usize> {
+    let ways = cheapest_ways(graph);
+    let completions = cheapest_completions(graph);
+    let entered = |block: usize| match (ways[block], completions[block]) {
+        (Some(way), Some(completion)) => way + completion <= graph.budget,
+        _ => false,
+    };
+    (1..=graph.blocks).filter(|block| !entered(*block)).collect()
+}
+
+/// The blocks that no kept path enters; empty for a sheet refused 1 to 8.
+pub fn unused_blocks(words: &[u16]) -> Vec<usize> {
+    match Graph::read(words) {
+        Ok(graph) => blocks_not_entered(&graph),
+        Err(_) => Vec::new(),
+    }
+}
+
+/// The report. Every line ends with a newline.
+pub fn report(bytes: &[u8]) -> String {
+    let mut text = String::new();
+    // The accepted sheets with their places.
+    let mut accepted: Vec<(usize, Figures)> = Vec::new();
+    for (index, sheet) in catalogue_sheets(bytes).into_iter().enumerate() {
+        let place = index + 1;
+        match figures(sheet) {
+            Ok(of) => {
+                text += &format!("{} {} {} {}\n", place, of.blocks, of.copies, of.edges);
+                accepted.push((place, of));
+            }
+            Err(number) => text += &format!("{place} refused {number}\n"),
+        }
+    }
+
+    let blocks: usize = accepted.iter().map(|(_, of)| of.blocks).sum();
+    let copies: usize = accepted.iter().map(|(_, of)| of.copies).sum();
+    let edges: usize = accepted.iter().map(|(_, of)| of.edges).sum();
+    text += &format!("total {blocks} {copies} {edges}\n");
+
+    // C / N is greater than c / n where C n is greater than c N; of equal fractions the earlier stays.
+    let mut most: Option<&(usize, Figures)> = None;
+    for sheet in &accepted {
+        let greater = match most {
+            Some((_, best)) => sheet.1.copies * best.blocks > best.copies * sheet.1.blocks,
+            None => true,
+        };
+        if greater {
+            most = Some(sheet);
+        }
+    }
+    text += &match most {
+        Some((place, of)) => format!("most {} {} {}\n", place, of.copies, of.blocks),
+        None => String::from("most none\n"),
+    };
+
+    for (place, of) in &accepted {
+        for block in &of.unused {
+            text += &format!("unused {place} {block}\n");
+        }
+    }
+    text
+}
