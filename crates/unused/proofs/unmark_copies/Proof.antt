@@ -47,7 +47,8 @@ slice-write-marks c = omega (arith, inside c, c .before .before .loop .inv .size
 loop-again : tie.Need-loop-again Inv-loop μ-loop
 loop-again c =
     let b = inside c in
-    onward _ _ (c .before .before .loop .inv) (c .before .loop-test .taken) (omega (arith, b, c .block-at .ensures .0)) (omega (arith, b))
+    onward _ _ (c .before .before .loop .inv) (omega (arith, c .before .loop-test .taken)) (omega (arith, b, c .block-at .ensures .0))
+    (omega (arith, b))
 
 same-length : tie.Need-same-length Inv-loop μ-loop
 same-length c = let z = c .before .before .before .before .before in c .before .loop .inv .size ∙ sym (z .pre .1)

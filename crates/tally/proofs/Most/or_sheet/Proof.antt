@@ -7,7 +7,7 @@ use Rattle.tally.proofs.Most.or_sheet.Statement.{statement}
 use Rattle.tally.proofs.Most.or_sheet.Tie as tie
 
 returns : tie.Need-returns
-returns c = stays _ _ _ (c .before .before .product .ensures) (c .before .product2 .ensures) (c .if1 .taken)
+returns c = stays _ _ _ (c .before .before .product .ensures) (c .before .product2 .ensures) (omega (arith, c .if1 .taken))
 
 returns-2 : tie.Need-returns-2
 returns-2 c = taken _ _ _ (c .before .before .product .ensures) (c .before .product2 .ensures) (omega (arith, c .if1 .left))
