@@ -18,10 +18,12 @@ keep-front : (f g : ℕ → Bool) (n m a : ℕ) → n ≤ m → ((v : ℕ) → a
 unfolding keep from
 keep-front f g zero zero a l p q = refl
 keep-front f g zero (suc m) a l p q =
-    rw (q a (omega arith) (omega arith), keep) (keep-front f g zero m (suc a) (omega arith) (λ v i j. absurd (omega arith)) (λ v i j. q v (omega arith) (omega arith)))
+    rw (q a (omega arith) (omega arith), keep)
+    (keep-front f g zero m (suc a) (omega arith) (λ v i j. absurd (omega arith)) (λ v i j. q v (omega arith) (omega arith)))
 keep-front f g (suc n) zero a l p q = absurd (omega arith)
 keep-front f g (suc n) (suc m) a l p q =
-    go (f a) refl (keep-front f g n m (suc a) (omega arith) (λ v i j. p v (omega arith) (omega arith)) (λ v i j. q v (omega arith) (omega arith)))
+    go (f a) refl
+    (keep-front f g n m (suc a) (omega arith) (λ v i j. p v (omega arith) (omega arith)) (λ v i j. q v (omega arith) (omega arith)))
   where
     go : (b : Bool) → f a ≡ b → keep g (from (suc a) m) ≡ keep f (from (suc a) n) → keep g (from a (suc m)) ≡ keep f (from a (suc n))
     go true e below = rw (p a (omega arith) (omega arith) ∙ e, e, keep) (ap (λ (xs : List ℕ). a ∷ xs) below)
