@@ -1,30 +1,24 @@
 // The report program: a catalogue of graph sheets on standard input, its report on standard output (document 02, K1).
-// Rests on figures, tally and report_lines, where the text is made, and on input; of each sheet this keeps the first bytes, which decide.
+// Rests on catalogue, where the text is made, and on input; this reads sheet by sheet, of each the first bytes, which decide, and prints.
 ghost use Prim.Native.Nat.{_≤_, _<_, _*_};
+ghost use mathlib.Core.Bool.{true};
 ghost use mathlib.Core.Path.{_≡_};
 ghost use lib.ListN.{length};
 ghost use Rattle.formats.specs.Limits.{mostBlocks, mostSheets};
-ghost use Rattle.tally.specs.Tallies.{Fits};
-use figures::report_item;
+ghost use Rattle.catalogue.specs.Standing.{Ready};
+use catalogue::MARKS;
+use catalogue::Step;
+use catalogue::closing_part;
+use catalogue::next_sheet;
 use file_words::LONGER_FILE;
 use file_words::joined;
-use graph_words::MOST_BLOCKS;
 use input::least;
 use input::skip;
 use libc::STDIN_FILENO;
 use libc::STDOUT_FILENO;
 use report_lines::LINE_SIZE;
 use report_lines::UNUSED_SIZE;
-use report_lines::write_most;
-use report_lines::write_total;
-use report_lines::write_unused;
 use tally::Tally;
-
-// The sheets of a catalogue; words after them are ignored.
-const MOST_SHEETS: usize = 200;
-
-// A mark for each block of each sheet: whether no kept path enters it.
-const MARKS: usize = MOST_SHEETS * MOST_BLOCKS;
 
 // What a length word cannot be: there is none.
 const NO_LENGTH: usize = 65536;
@@ -33,12 +27,6 @@ const NO_LENGTH: usize = 65536;
 struct Kept {
     count: usize,
     cut: bool,
-}
-
-// A tally, and whether its last sheet was the catalogue's last.
-struct Step {
-    tally: Tally,
-    last: bool,
 }
 
 // The word with the length of the next sheet; a last odd byte is none.
@@ -68,79 +56,57 @@ fn read_sheet(size: usize, row: &mut [u8]) -> Kept
     }
 }
 
-// Reads a sheet of n words, prints its line, and adds it to the tally.
+// Reads a sheet of n words, and prints its line.
 fn report_next(n: usize, tally: Tally, marks: &mut [u8]) -> Step
     requires { ⌜ n ≤ 65535 ⌝ }
-    requires { ⌜ (tally .place < mostSheets) × Fits tally ⌝ }
-    requires { ⌜ length (now marks) ≡ mostBlocks ⌝ }
-    ensures { λ r. ⌜ (r .tally .place ≤ mostSheets) × (tally .place < r .tally .place) × Fits (r .tally) ⌝ }
+    requires { ⌜ Ready tally (now marks) × (tally .place < mostSheets) ⌝ }
+    ensures { λ r. ⌜ Ready (r .tally) (now (marks .exit)) × (tally .place < r .tally .place) ⌝ }
+    ensures { λ r. ⌜ (r .more ≡ true → r .tally .place < mostSheets) ⌝ }
 {
     let mut bytes = [0u8; LONGER_FILE];
     let kept = read_sheet(2 * n, &mut bytes);
     let count = kept.count;
     let mut text = [0u8; LINE_SIZE];
-    let r = report_item(&bytes[..count], kept.cut, tally.place + 1, marks, &mut text);
-    let size = r.size;
+    let s = next_sheet(&bytes[..count], kept.cut, tally, marks, &mut text);
+    let size = s.size;
     io::write_all(STDOUT_FILENO, &text[..size]);
-    let next = tally.with_sheet(r.blocks, r.copies, r.edges);
-    Step {
-        tally: next,
-        last: kept.cut,
-    }
+    s
 }
 
-// Reports sheet by sheet.
+// Reports sheet by sheet, while there is a length and another sheet may come.
 fn report_sheets(marks: &mut [u8]) -> Tally
     requires { ⌜ length (now marks) ≡ mostSheets * mostBlocks ⌝ }
-    ensures { λ r. ⌜ (r .place ≤ mostSheets) × Fits r ⌝ }
+    ensures { λ r. ⌜ Ready r (now (marks .exit)) ⌝ }
 {
     let mut tally = Tally::start();
-    while tally.place < MOST_SHEETS {
+    let mut more = true;
+    while more {
         let n = read_length();
         if n == NO_LENGTH {
             return tally;
         }
-        let at = tally.place * MOST_BLOCKS;
-        let s = report_next(n, tally, &mut marks[at..at + MOST_BLOCKS]);
+        let s = report_next(n, tally, marks);
         tally = s.tally;
-        if s.last {
-            return tally;
-        }
+        more = s.more;
     }
     tally
 }
 
-// Prints the totals and the greatest.
-fn print_summary(tally: Tally)
-    requires { ⌜ (tally .place ≤ mostSheets) × Fits tally ⌝ }
-{
-    let mut text = [0u8; LINE_SIZE];
-    let n = write_total(&mut text, tally.blocks, tally.copies, tally.edges);
-    io::write_all(STDOUT_FILENO, &text[..n]);
-    let most = tally.most;
-    let m = write_most(&mut text, most.place, most.copies, most.blocks);
-    io::write_all(STDOUT_FILENO, &text[..m]);
-}
-
-// Prints the unused blocks of the first n sheets.
-fn print_unused(n: usize, marks: &[u8])
-    requires { ⌜ n ≤ mostSheets ⌝ }
-    requires { ⌜ length (now marks) ≡ mostSheets * mostBlocks ⌝ }
+// Prints the closing parts.
+fn print_closing(tally: Tally, marks: &[u8])
+    requires { ⌜ Ready tally (now marks) ⌝ }
 {
     let mut text = [0u8; UNUSED_SIZE];
-    let mut i = 0;
-    while i < n {
-        let at = i * MOST_BLOCKS;
-        let k = write_unused(&mut text, i + 1, &marks[at..at + MOST_BLOCKS]);
-        io::write_all(STDOUT_FILENO, &text[..k]);
-        i += 1;
+    let mut k = 0;
+    while k < tally.place + 2 {
+        let size = closing_part(k, tally, marks, &mut text);
+        io::write_all(STDOUT_FILENO, &text[..size]);
+        k += 1;
     }
 }
 
 fn main() {
     let mut marks = [0u8; MARKS];
     let tally = report_sheets(&mut marks);
-    let n = tally.place;
-    print_summary(tally);
-    print_unused(n, &marks);
+    print_closing(tally, &marks);
 }

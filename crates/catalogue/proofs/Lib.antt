@@ -1,0 +1,10 @@
+-- the marks of one sheet in the row of all: own-marks, other-marks
+pub mod Marks
+-- one sheet more, behind those so far: lines-more, sums-more, most-more, chosen-more
+pub mod More
+-- what a tally and the marks stand for with one sheet more, and with none: next-of, room-left, stands-first
+pub mod Stands
+-- the closing parts: total-part, most-part, unused-part
+pub mod Closing
+-- THE WHOLE REPORT: the lines of the sheets and the closing parts are it: run-stands, whole-report
+pub mod Whole
