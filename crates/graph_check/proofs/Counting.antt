@@ -2,8 +2,9 @@
 -- Rests on Orders, Chains, formats Accepted.
 use mathlib.Core.Path.{_≡_, refl, sym, ap₂, _∙_}
 use mathlib.Core.Bool.{Bool, true, false}
+use mathlib.Core.Logic.{_⊎_, ⊎-elim}
 use mathlib.Core.List.{List, [], _∷_, List·Memᴰ, List·Memᴰ·head, List·Memᴰ·tail}
-use Prim.Native.Nat.{ℕ, zero, suc, _-_, _≤_, _<_}
+use Prim.Native.Nat.{ℕ, zero, suc, _+_, _-_, _≤_, _<_}
 use native.Mathlib.Omega.{arith}
 use Rattle.base.specs.Lists.{all}
 use Rattle.base.specs.Checks.{refused, over, outside}
@@ -14,7 +15,7 @@ use Rattle.formats.specs.GraphSheet.{BlockOf, countOrder, countSuccessors}
 use Rattle.formats.proofs.Accepted.{accepted, edge-inside}
 use Rattle.graph_check.specs.Chains.{edgesFrom, Inside}
 use Rattle.base.proofs.Orders.{pick, tested, append-stops, append-passes, over-is}
-use Rattle.formats.proofs.Chains.{follow-more}
+use Rattle.formats.proofs.Chains.{follow-more, follow-end, follow-out, length-end, length-more}
 
 module _ (w : List ℕ) where
   -- A CHAIN INSIDE, edge by edge
@@ -30,6 +31,31 @@ module _ (w : List ℕ) where
     pub inside-next : {x : ℕ} → x ≡ nextWord (header w) w e → Inside w (k - 1) x
     unfolding Inside
     inside-next q = rw q (λ y m. here y (List·Memᴰ·tail m))
+
+  -- A CHAIN COUNTED: count edges from e on are passed, at is where the chain goes on, and the rest is counted still
+
+  pub record Passed (k e at count : ℕ) : Type 0 where
+    pub within : count ≤ k
+    pub inside : Inside w (k - count) at
+    pub sum : chainLength (nextWord (header w) w) k e ≡ count + chainLength (nextWord (header w) w) (k - count) at
+
+  pub none-passed : {k e : ℕ} → Inside w k e → Passed k e e 0
+  none-passed {k} {e} I = let z : k - 0 ≡ k = omega arith in record { within = omega arith; inside = rw z I; sum = rw z (omega arith) }
+
+  module _ {k e at count : ℕ} (P : Passed k e at count) where
+    pub one-passed : {x : ℕ} → count < k → (at ≡ 0 → ⊥) → x ≡ nextWord (header w) w at → Passed k e x (count + 1)
+    one-passed {x} l n q =
+        let m = length-more (nextWord (header w) w) (k - count) at (omega arith) n in
+        let z : k - (count + 1) ≡ k - count - 1 = omega arith in
+        let I : Inside w (k - count - 1) x = inside-next (P .inside) (omega arith) n q in
+        record { within = omega arith; inside = rw z I; sum = rw (z, q) (omega (arith, P .sum)) }
+
+    -- nothing is left of the chain, or no more is to be counted
+    pub all-passed : (at ≡ 0) ⊎ (count ≡ k) → count ≡ chainLength (nextWord (header w) w) k e
+    all-passed o =
+        let next = nextWord (header w) w in
+        let z = length-end next (k - count) at (⊎-elim (follow-end next _ _) (λ q. follow-out next _ _ (omega arith)) o) in
+        omega (arith, P .sum)
 
   pub chain-inside : {v k e : ℕ} → sheetRefusal w ≡ 0 → (1 ≤ v) × (v ≤ header w .blocks) → k ≡ suc (header w .edges)
       → e ≡ firstWord (header w) w v → Inside w k e

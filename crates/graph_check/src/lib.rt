@@ -206,21 +206,23 @@ pub fn check_graph(s: &[u16]) -> u16
     record_answer(s)
 }
 
-// The number of edges of a chain from e on: "zero if empty, else one more than the rest"; at most k.
+// The number of edges of a chain from e on, edge by edge: "zero if empty, else one more than the rest"; at most k.
 fn chain_length(s: &[u16], e: usize, k: usize) -> usize
     requires { ⌜ Formed (now s) ⌝ }
     requires { ⌜ k ≤ suc mostEdges ⌝ }
     requires { ⌜ Inside (now s) k e ⌝ }
     ensures { λ r. ⌜ (r ≡ chainLength (nextWord (header (now (s .entry))) (now (s .entry))) k e) × (r ≤ k) ⌝ }
 {
-    if k == 0 {
-        return 0;
+    let mut at = e;
+    let mut count = 0;
+    while count < k {
+        if at == 0 {
+            return count;
+        }
+        at = next_of(s, at);
+        count += 1;
     }
-    if e == 0 {
-        return 0;
-    }
-    let next = next_of(s, e);
-    1 + chain_length(s, next, k - 1)
+    count
 }
 
 // The number of successors of block v in an accepted sheet. Below the public calls.
