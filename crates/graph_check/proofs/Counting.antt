@@ -1,4 +1,4 @@
--- The number of successors: chains that stay inside the sheet, and what a refused and an accepted call answer.
+-- The number of successors: chains that stay inside the sheet, a chain counted edge by edge, and what a refused and an accepted call answer.
 -- Rests on Orders, Chains, formats Accepted.
 use mathlib.Core.Path.{_≡_, refl, sym, ap₂, _∙_}
 use mathlib.Core.Bool.{Bool, true, false}
