@@ -118,7 +118,7 @@ pub fn build_case(random: &mut Random, tally: &mut Tally, sheet: &[u16]) -> Opti
     Some(output[..filled].to_vec())
 }
 
-/// One list of choices, given to the monitor, to monitored moves and to bounded moves on a sheet that was built.
+/// One list of choices, given to the monitor, to guarded moves and to bounded moves on a sheet that was built.
 pub fn run_case(random: &mut Random, tally: &mut Tally, sheet: &[u16], bounded: &[u16]) {
     let monitor = match Monitor::new(sheet) {
         Ok(monitor) => monitor,
@@ -136,13 +136,13 @@ pub fn run_case(random: &mut Random, tally: &mut Tally, sheet: &[u16], bounded: 
         let longer = random.below(3);
         let mut area = junk_bytes(random, needed + longer);
         let (answer, after) = monitor.step(state, choice);
-        let by_graph = raw::monitored_move(sheet, &mut area, &mut watched, choice as u16);
+        let by_graph = raw::guarded_move(sheet, &mut area, &mut watched, choice as u16);
         let by_copies = raw::bounded_move(bounded, &mut walked, choice as u16);
         state = after;
         accepted += u32::from(answer == 0);
         let block = u32::from(bounded.get(3 * usize::from(walked[0])).copied().unwrap_or(0));
         tally.moves += 2;
-        tally.call("a list of choices, monitored moves", sheet, by_graph, (by_graph, walk_of(watched)), (answer, state));
+        tally.call("a list of choices, guarded moves", sheet, by_graph, (by_graph, walk_of(watched)), (answer, state));
         let shown = Walk { place: block, ..walk_of(walked) };
         let wanted = Walk { count: accepted, ..state };
         tally.call("a list of choices, bounded moves", sheet, by_copies, (by_copies, shown), (answer, wanted));
@@ -153,16 +153,16 @@ pub fn run_case(random: &mut Random, tally: &mut Tally, sheet: &[u16], bounded: 
     }
 }
 
-/// A monitored move of any walk, on any graph sheet.
-pub fn monitored_case(random: &mut Random, tally: &mut Tally, sheet: &[u16]) {
+/// A guarded move of any walk, on any graph sheet.
+pub fn guarded_case(random: &mut Random, tally: &mut Tally, sheet: &[u16]) {
     let walk = walk_of(words_of(random::graph_walk(random, sheet)));
     let choice = random::graph_choice(random, sheet, walk).min(65535);
     let size = area_length(random, sheet);
     let mut area = junk_bytes(random, size);
-    let (answer, after, area_after) = reference::monitored_move(sheet, &area, walk, choice);
+    let (answer, after, area_after) = reference::guarded_move(sheet, &area, walk, choice);
     let mut row = words_of(walk);
-    let got = raw::monitored_move(sheet, &mut area, &mut row, choice as u16);
-    tally.call("monitored_move", sheet, got, (got, row, area), (answer, words_of(after), area_after));
+    let got = raw::guarded_move(sheet, &mut area, &mut row, choice as u16);
+    tally.call("guarded_move", sheet, got, (got, row, area), (answer, words_of(after), area_after));
 }
 
 /// Rule 11, the edge words of a copy, and a bounded move of any walk, on any bounded sheet.
@@ -193,10 +193,10 @@ pub fn endless_case(random: &mut Random, tally: &mut Tally, sheet: &[u16], bound
     let mut area = junk_bytes(random, size);
     // A walk at no place is refused like one with no end.
     let nowhere = Walk { place: 0, count: 0, end: End::Going };
-    let (answer, _, area_after) = reference::monitored_move(sheet, &area, nowhere, 1);
+    let (answer, _, area_after) = reference::guarded_move(sheet, &area, nowhere, 1);
     let mut walk = row;
-    let got = raw::monitored_move(sheet, &mut area, &mut walk, 1);
-    tally.call("monitored_move with no end", sheet, got, (got, walk, area), (answer, row, area_after));
+    let got = raw::guarded_move(sheet, &mut area, &mut walk, 1);
+    tally.call("guarded_move with no end", sheet, got, (got, walk, area), (answer, row, area_after));
     let (answer, _) = reference::bounded_move(bounded, nowhere, 1);
     let mut walk = row;
     let got = raw::bounded_move(bounded, &mut walk, 1);

@@ -16,7 +16,7 @@ fn main() -> ExitCode {
     for _ in 0..count {
         let sheet = cases::graph(&mut random);
         let built = cases::build_case(&mut random, &mut tally, &sheet);
-        cases::monitored_case(&mut random, &mut tally, &sheet);
+        cases::guarded_case(&mut random, &mut tally, &sheet);
         if let Some(bounded) = &built {
             cases::run_case(&mut random, &mut tally, &sheet, bounded);
             cases::bounded_case(&mut random, &mut tally, bounded);

@@ -17,4 +17,4 @@ pub use construction::{build, completion_table, Built};
 pub use graph::{check_graph, graph_sheet, paper_example, successor_count};
 pub use listing::listing;
 pub use report::{catalogue_sheets, report, unused_blocks};
-pub use walk::{bounded_move, monitor_step, monitored_move, End, Monitor, Walk};
+pub use walk::{bounded_move, monitor_step, guarded_move, End, Monitor, Walk};

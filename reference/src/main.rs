@@ -4,7 +4,7 @@
 use reference::{catalogue, corpus};
 use reference::random::{self, area_length, bounded_words, graph_words, length_near, Random, Size};
 use reference::{
-    bounded_move, build, check_bounded, check_graph, edge_words, listing, monitored_move, report,
+    bounded_move, build, check_bounded, check_graph, edge_words, listing, guarded_move, report,
     successor_count, End, Monitor, Walk,
 };
 use std::io::{self, BufWriter, Read, Write};
@@ -29,7 +29,7 @@ const KINDS: [Kind; 9] = [
     ("count", count_case),
     ("build", build_case),
     ("bounded", bounded_case),
-    ("monitored", monitored_case),
+    ("guarded", guarded_case),
     ("move", move_case),
     ("part", part_case),
     ("run", run_case),
@@ -194,7 +194,7 @@ fn bounded_case(random: &mut Random, size: Size) -> Vec<String> {
     vec!["bounded".into(), row(&words), check_bounded(&words).to_string()]
 }
 
-fn monitored_case(random: &mut Random, size: Size) -> Vec<String> {
+fn guarded_case(random: &mut Random, size: Size) -> Vec<String> {
     let words = if random.chance(70) {
         random::buildable_graph(random, size)
     } else {
@@ -203,9 +203,9 @@ fn monitored_case(random: &mut Random, size: Size) -> Vec<String> {
     let area_length = area_length(random, &words);
     let walk = random::graph_walk(random, &words);
     let choice = random::graph_choice(random, &words, walk);
-    let (answer, after, area) = monitored_move(&words, &vec![7; area_length], walk, choice);
+    let (answer, after, area) = guarded_move(&words, &vec![7; area_length], walk, choice);
     vec![
-        "monitored".into(),
+        "guarded".into(),
         row(&words),
         area_length.to_string(),
         walk_text(walk),

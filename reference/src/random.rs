@@ -683,7 +683,7 @@ fn any_walk(random: &mut Random, places: usize, budget: usize, beyond: usize) ->
     }
 }
 
-/// A walk for a monitored move on this sheet.
+/// A walk for a guarded move on this sheet.
 pub fn graph_walk(random: &mut Random, words: &[u16]) -> Walk {
     any_walk(random, get(words, 0), get(words, 2), 0)
 }
@@ -705,7 +705,7 @@ fn any_choice(random: &mut Random, successors: usize) -> u32 {
     choice as u32
 }
 
-/// A choice for a monitored move of this walk.
+/// A choice for a guarded move of this walk.
 pub fn graph_choice(random: &mut Random, words: &[u16], walk: Walk) -> u32 {
     let (_, count) = successor_count(words, walk.place.min(65535) as u16);
     any_choice(random, usize::from(count))

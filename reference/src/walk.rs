@@ -1,4 +1,4 @@
-// Walks: the monitored move on a graph sheet, the bounded move on a bounded sheet, and the monitor.
+// Walks: the guarded move on a graph sheet, the bounded move on a bounded sheet, and the monitor.
 // It rests on graph.rs, construction.rs, cheapest.rs, bounded.rs and the sections on walks and on the list of choices.
 
 use crate::bounded::Bounded;
@@ -43,8 +43,8 @@ fn chosen(targets: &[usize], choice: u32) -> Option<usize> {
     Some(targets[choice as usize - 1])
 }
 
-/// The monitored move: answers 1 to 8, 21, 9, 33, 32, 31, 0; the walk and the work area after it.
-pub fn monitored_move(
+/// The guarded move: answers 1 to 8, 21, 9, 33, 32, 31, 0; the walk and the work area after it.
+pub fn guarded_move(
     words: &[u16],
     area: &[u8],
     walk: Walk,

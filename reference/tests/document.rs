@@ -282,20 +282,20 @@ fn edge_words_of_a_copy() {
 }
 
 #[test]
-fn monitored_moves_in_order() {
+fn guarded_moves_in_order() {
     let words = paper_example(9);
     let table = completion_table(&words);
     let go = |walk: Walk, choice: u32| {
-        let (answer, after, area) = monitored_move(&words, &[7; 82], walk, choice);
+        let (answer, after, area) = guarded_move(&words, &[7; 82], walk, choice);
         assert_eq!((&area[..80], &area[80..]), (&table[..], &[7, 7][..]));
         if answer != 0 {
             assert_eq!(after, walk);
         }
         (answer, after)
     };
-    assert_eq!(monitored_move(&words[..36], &[], going(9, 99), 0), (3, going(9, 99), vec![]));
-    assert_eq!(monitored_move(&words, &[7; 79], going(9, 99), 0), (21, going(9, 99), vec![7; 79]));
-    assert_eq!(monitored_move(&paper_example(4), &[7; 40], going(9, 99), 0).0, 9);
+    assert_eq!(guarded_move(&words[..36], &[], going(9, 99), 0), (3, going(9, 99), vec![]));
+    assert_eq!(guarded_move(&words, &[7; 79], going(9, 99), 0), (21, going(9, 99), vec![7; 79]));
+    assert_eq!(guarded_move(&paper_example(4), &[7; 40], going(9, 99), 0).0, 9);
     assert_eq!(go(going(0, 0), 0).0, 33);
     assert_eq!(go(going(9, 0), 0).0, 33);
     assert_eq!(go(going(2, 0), 0).0, 33);
@@ -432,14 +432,14 @@ fn tables_and_copies_agree_with_enumerated_paths() {
     assert!(checked > 1000);
 }
 
-/// The claim on a list of choices: monitor, bounded moves and monitored moves go together.
+/// The claim on a list of choices: monitor, bounded moves and guarded moves go together.
 fn go_together(words: &[u16], choices: &[u32], random: &mut Random) {
     let budget = words[2] as u32;
     let sheet = sheet_of(words);
     assert_eq!(check_bounded(&sheet), 0);
     let monitor = Monitor::new(words).ok().unwrap();
     let area_needed = words[0] as usize * (words[2] as usize + 1);
-    let (mut state, mut bounded, mut monitored) = (Walk::start(), Walk::start(), Walk::start());
+    let (mut state, mut bounded, mut guarded) = (Walk::start(), Walk::start(), Walk::start());
     let mut moves = 0;
     for choice in choices {
         let (first, after) = monitor.step(state, *choice);
@@ -448,17 +448,17 @@ fn go_together(words: &[u16], choices: &[u32], random: &mut Random) {
         let (second, after) = bounded_move(&sheet, bounded, *choice);
         bounded = after;
         let area = vec![random.below(256) as u8; area_needed];
-        let (third, after, _) = monitored_move(words, &area, monitored, *choice);
-        monitored = after;
+        let (third, after, _) = guarded_move(words, &area, guarded, *choice);
+        guarded = after;
         assert_eq!((first, first), (second, third));
         if first == 0 {
             moves += 1;
         }
     }
     let shown = sheet[3 + 3 * (bounded.place as usize - 1)] as u32;
-    assert_eq!((state.place, state.place), (shown, monitored.place));
-    assert_eq!((state.end, state.end), (bounded.end, monitored.end));
-    assert_eq!(state.count, monitored.count);
+    assert_eq!((state.place, state.place), (shown, guarded.place));
+    assert_eq!((state.end, state.end), (bounded.end, guarded.end));
+    assert_eq!(state.count, guarded.count);
     assert!(state.count <= budget);
     assert_eq!(bounded.count, moves);
     if state.end == End::Going {
@@ -559,7 +559,7 @@ fn nothing_panics_and_refusals_keep_what_is_lent() {
             assert_eq!(built.area, area);
         }
         let walk = random::graph_walk(&mut random, &words);
-        let (answer, after, _) = monitored_move(&words, &area, walk, random.below(4) as u32);
+        let (answer, after, _) = guarded_move(&words, &area, walk, random.below(4) as u32);
         if answer != 0 {
             assert_eq!(after, walk);
         }

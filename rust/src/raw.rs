@@ -26,7 +26,7 @@ mod exported {
             size: *mut usize,
         ) -> u16;
         pub fn gilstavo_start(walk: *mut [u16; 3]);
-        pub fn gilstavo_monitored_move(
+        pub fn gilstavo_guarded_move(
             sheet: *const u16,
             sheet_words: usize,
             area: *mut u8,
@@ -78,9 +78,9 @@ pub fn start(walk: &mut [u16; 3]) {
     unsafe { exported::gilstavo_start(walk) }
 }
 
-pub fn monitored_move(sheet: &[u16], area: &mut [u8], walk: &mut [u16; 3], choice: u16) -> u16 {
+pub fn guarded_move(sheet: &[u16], area: &mut [u8], walk: &mut [u16; 3], choice: u16) -> u16 {
     unsafe {
-        exported::gilstavo_monitored_move(
+        exported::gilstavo_guarded_move(
             sheet.as_ptr(),
             sheet.len(),
             area.as_mut_ptr(),

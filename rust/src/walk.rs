@@ -45,9 +45,9 @@ impl Walk {
     }
 
     /// A move on a graph sheet, watched by its completion costs: 1 to 8, 21, 9, 33, 32, 31. The work area is as after a weighing.
-    pub fn monitored_move(&mut self, sheet: &[u16], area: &mut [u8], choice: u16) -> Result<(), Refusal> {
+    pub fn guarded_move(&mut self, sheet: &[u16], area: &mut [u8], choice: u16) -> Result<(), Refusal> {
         let mut row = self.words();
-        let answer = raw::monitored_move(sheet, area, &mut row, choice);
+        let answer = raw::guarded_move(sheet, area, &mut row, choice);
         *self = Walk::from_words(row);
         Refusal::from_answer(answer)
     }

@@ -61,12 +61,12 @@ fn a_path_of_10_cycles_is_diverted() {
     let (mut watched, mut walked) = (Walk::start(), Walk::start());
     assert_eq!(watched, Walk { place: 1, count: 0, end: End::Going });
     for choice in [1, 2, 1, 2] {
-        assert_eq!(watched.monitored_move(&example(9), &mut area, choice), Ok(()));
+        assert_eq!(watched.guarded_move(&example(9), &mut area, choice), Ok(()));
         assert_eq!(walked.bounded_move(&BOUNDED, choice), Ok(()));
     }
     assert_eq!(watched, Walk { place: 6, count: 7, end: End::Diverted });
     assert_eq!(walked, Walk { place: 6, count: 4, end: End::Diverted });
-    assert_eq!(watched.monitored_move(&example(9), &mut area, 1), Err(Refusal(32)));
+    assert_eq!(watched.guarded_move(&example(9), &mut area, 1), Err(Refusal(32)));
     assert_eq!(walked.bounded_move(&BOUNDED, 1), Err(Refusal(32)));
 }
 

@@ -170,10 +170,10 @@ fn main() {
     let kept_area = area.clone();
     let took = timed(&mut [
         &mut || {
-            black_box(raw::monitored_move(black_box(sheet), &mut area, &mut [1, 0, 0], 1));
+            black_box(raw::guarded_move(black_box(sheet), &mut area, &mut [1, 0, 0], 1));
         },
         &mut || {
-            black_box(reference::monitored_move(black_box(sheet), &kept_area, start, 1));
+            black_box(reference::guarded_move(black_box(sheet), &kept_area, start, 1));
         },
         &mut || {
             black_box(raw::bounded_move(black_box(bounded), &mut [1, 0, 0], 1));
@@ -182,6 +182,6 @@ fn main() {
             black_box(reference::bounded_move(black_box(bounded), start, 1));
         },
     ]);
-    println!("a monitored move on a largest graph: {:.1} µs, reference {:.1}, ratio {:.2}", took[0], took[1], took[0] / took[1]);
+    println!("a guarded move on a largest graph: {:.1} µs, reference {:.1}, ratio {:.2}", took[0], took[1], took[0] / took[1]);
     println!("a bounded move on its bounded sheet: {:.1} µs, reference {:.1}, ratio {:.2}", took[2], took[3], took[2] / took[3]);
 }

@@ -6,14 +6,15 @@ use mathlib.Core.List.{List}
 use Prim.Native.Nat.{ℕ, zero, suc}
 use lib.Dec.{ltb}
 use lib.ListN.{length}
-use Rattle.base.specs.Checks.{refused, outside}
-use Rattle.base.proofs.Orders.{over-stops, over-passes}
+use Rattle.base.specs.Lists.{any, from, member}
+use Rattle.base.specs.Checks.{refused, lentAfter}
+use Rattle.base.proofs.Orders.{over-stops, over-passes, refused-lent}
 use Rattle.formats.specs.GraphSheet.{header}
 use Rattle.formats.specs.BoundedSheet.{heading}
 use Rattle.calls.specs.SheetGraph.{sheetCopies, boundedSheet}
 use Rattle.calls.specs.Weigh.{Weighing, weighOrder, beforeWeighing, areaAfter, weighed}
 use Rattle.calls.specs.Build.{Lent, tooMany, smallOutput, buildOrder, outputAfter, build}
-use Rattle.calls.proofs.Weigh.{weigh-numbered}
+use Rattle.calls.proofs.Weigh.{weigh-numbered, spared}
 use Rattle.build.specs.Within.{sheetAt, answerAt, outputAt}
 
 -- answers that both come after weighing leave the same area
@@ -43,11 +44,7 @@ module _ (w area out : List ℕ) where
 
     pub refused-output : build lent .output ≡ out
     unfolding build outputAfter
-    refused-output = ap (λ (x : ℕ). outputAfter w x out) refused-answer ∙ kept a n
-      where
-        kept : (x : ℕ) → (x ≡ 0 → ⊥) → outputAfter w x out ≡ out
-        kept zero n = absurd (n refl)
-        kept (suc x) n = refl
+    refused-output = ap (λ (x : ℕ). outputAfter w x out) refused-answer ∙ sym (refused-lent out _ a n)
 
   -- WEIGHING PASSES
   module _ (e : weighed front .answer ≡ 0) where
@@ -60,19 +57,20 @@ module _ (w area out : List ℕ) where
 
     -- 10, 22 and 0 come after weighing
     late : (x y : Bool) → beforeWeighing (elim x [ true ↦ 10 | false ↦ elim y [ true ↦ 22 | false ↦ 0 ] ]) ≡ false
-    unfolding beforeWeighing outside
-    late true y = refl
-    late false true = refl
-    late false false = refl
+    unfolding any member from
+    late true y = spared 10
+    late false true = spared 22
+    late false false = spared 0
 
     pub passed-area : build lent .area ≡ weighed front .area
-    unfolding build weighed answerAt beforeWeighing outside
+    unfolding build weighed answerAt any member from
     passed-area =
         same-area w area _ _
-        (ap beforeWeighing passed-answer ∙ late (tooMany (heading (sheetAt w B))) (ltb (length out) (length (sheetAt w B)))) (ap beforeWeighing e)
+        (ap beforeWeighing passed-answer ∙ late (tooMany (heading (sheetAt w B))) (ltb (length out) (length (sheetAt w B))))
+        (ap beforeWeighing e ∙ spared 0)
 
     pub passed-output : build lent .output ≡ outputAt w B (answerAt w B (length out)) out
-    unfolding build boundedSheet sheetCopies outputAfter outputAt
+    unfolding build boundedSheet sheetCopies lentAfter outputAfter outputAt
     passed-output = ap (λ (x : ℕ). outputAfter w x out) passed-answer ∙ same (answerAt w B (length out))
       where
         same : (x : ℕ) → outputAfter w x out ≡ outputAt w B x out

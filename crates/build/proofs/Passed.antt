@@ -7,8 +7,7 @@ use Prim.Native.Nat.{ℕ, zero, suc, _*_, _≤_}
 use native.Mathlib.Omega.{arith}
 use native.Mathlib.Nat.{mul-le-mul}
 use lib.ListN.{length, getD, replicate}
-use Rattle.base.specs.Lists.{isNone}
-use Rattle.base.specs.Checks.{outside}
+use Rattle.base.specs.Lists.{any, isNone, from, member}
 use Rattle.theory.specs.Completions.{lowOf}
 use Rattle.formats.specs.Limits.{mostBlocks, mostBudget}
 use Rattle.formats.specs.GraphSheet.{header, sheetRefusal}
@@ -16,7 +15,7 @@ use Rattle.formats.proofs.Accepted.{accepted, long, blocks, budget-fits}
 use Rattle.calls.specs.SheetGraph.{graph}
 use Rattle.calls.specs.Area.{areaSize, filled, Table}
 use Rattle.calls.specs.Weigh.{sheetArea, beforeWeighing, areaAfter, weighed}
-use Rattle.calls.proofs.Weigh.{Passed, weighs-e}
+use Rattle.calls.proofs.Weigh.{Passed, weighs-e, spared}
 use Rattle.calls.proofs.Area.{filled-table}
 use Rattle.descend.specs.Marks.{Clear}
 
@@ -40,8 +39,8 @@ module _ (w area : List ℕ) (e : weighed (record { sheet = w; area = area }) .a
 
   -- the area holds the table
   area-filled : weighed (record { sheet = w; area = area }) .area ≡ filled (graph w) (header w .blocks) (header w .budget) area
-  unfolding weighed areaAfter beforeWeighing outside
-  area-filled = ap (λ (a : ℕ). areaAfter w a area) e
+  unfolding weighed areaAfter any member from
+  area-filled = rw (ap beforeWeighing e ∙ spared 0, areaAfter)
 
   pub has-table : Table (graph w) (header w .blocks) (header w .budget) (weighed (record { sheet = w; area = area }) .area)
   unfolding sheetArea

@@ -10,6 +10,7 @@ use lib.Dec.{eqb}
 use lib.ListN.{length, getD, take, drop, length-map, length-append, length-drop, List·getD-append}
 use lib.Seq.{getD-append-add, getD-drop, take-at, drop-at}
 use Rattle.base.specs.Lists.{each, from}
+use Rattle.base.specs.Checks.{lentAfter}
 use Rattle.base.proofs.Lists.{from-length}
 use Rattle.theory.specs.Completions.{Graph, completes}
 use Rattle.calls.specs.SheetGraph.{boundedSheet}
@@ -120,9 +121,9 @@ module _ (g : Graph) (n b : ℕ) (area : List ℕ) (room : areaSize n b ≤ leng
 
 -- THE OUTPUT ROW after an accepted build: its words, and the rest untouched
 pub output-words : (w output : List ℕ) → take (length (boundedSheet w)) (outputAfter w 0 output) ≡ boundedSheet w
-unfolding outputAfter
+unfolding lentAfter outputAfter
 output-words w output = take-at (boundedSheet w) (drop (length (boundedSheet w)) output) (length (boundedSheet w)) refl
 
 pub output-rest : (w output : List ℕ) → drop (length (boundedSheet w)) (outputAfter w 0 output) ≡ drop (length (boundedSheet w)) output
-unfolding outputAfter
+unfolding lentAfter outputAfter
 output-rest w output = drop-at (boundedSheet w) (drop (length (boundedSheet w)) output) (length (boundedSheet w)) refl

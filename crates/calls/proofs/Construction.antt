@@ -1,28 +1,30 @@
 -- DEMAND 2 of every graph sheet that a build accepts.
 -- Rests on theory Reach, formats Reading and RuleRead, SettingRows, Built.
-use mathlib.Core.Path.{_≡_, refl, sym, ap, subst}
-use mathlib.Core.List.{List, [], _∷_, List·Memᴰ}
-use mathlib.Core.Option.{Option, some, Option·map}
-use Prim.Native.Nat.{ℕ, _<_}
+use mathlib.Core.Path.{_≡_, refl, sym, ap, subst, _∙_}
+use mathlib.Core.Logic.{_≢_}
+use mathlib.Core.List.{List, [], _∷_, map, List·Memᴰ}
+use mathlib.Core.Option.{Option, some, none, Option·map}
+use Prim.Native.Nat.{ℕ, suc, _+_, _-_, _<_}
 use native.Mathlib.Omega.{arith}
 use borrow.Author.Tests.{eqb-true, not-false}
 use lib.ListN.{length, length-map}
 use Rattle.base.specs.Lists.{any, chosen}
-use Rattle.base.specs.Copy.{Copy, copyOf, isIn}
-use Rattle.base.proofs.Copies.{rising-chosen}
-use Rattle.theory.specs.Completions.{Graph, lowOf}
-use Rattle.theory.specs.Copies.{targets, copyFor, add, join, startCopies, Reached}
+use Rattle.base.specs.Copy.{Copy, copyOf, isIn, numberFrom}
+use Rattle.base.proofs.Lists.{chosen-map, chosen-mem, chosen-le, chosen-some, choice-of}
+use Rattle.base.proofs.Copies.{rising-chosen, number-chosen}
+use Rattle.theory.specs.Completions.{Graph, Completion, IsLow, NoLow, lowOf}
+use Rattle.theory.specs.Copies.{targets, copyFor, add, join, startCopies, targetNumber, Reached}
 use Rattle.theory.specs.Setting.{Setting, copies}
-use Rattle.theory.proofs.Completions.{low-some, covers}
-use Rattle.theory.proofs.Reach.{target-mem, reached-in, in-reached, copy-sound}
+use Rattle.theory.proofs.Completions.{low-some, is-low, no-low, exit-cost, covers, serves}
+use Rattle.theory.proofs.Reach.{target-mem, edge-target, targets-in, reached-in, in-reached, copy-sound}
 use Rattle.formats.specs.GraphSheet.{header}
-use Rattle.formats.specs.BoundedSheet.{sheetWords, heading, copyAt}
+use Rattle.formats.specs.BoundedSheet.{sheetWords, heading, boundedLength, copyAt, targetsAt}
 use Rattle.formats.specs.Rule11.{wrongLength}
 use Rattle.formats.proofs.Reading.{laid, Reads, reads}
 use Rattle.formats.proofs.RuleRead.{clauses}
 use Rattle.calls.specs.SheetGraph.{graph, rowOf, rowsOf, sheetCopies, boundedSheet}
-use Rattle.calls.specs.Construction.{Demand2}
-use Rattle.calls.proofs.SettingRows.{row-at, rises}
+use Rattle.calls.specs.Construction.{IsPlace, Demand2}
+use Rattle.calls.proofs.SettingRows.{row-at, rises, its-target}
 use Rattle.calls.proofs.Built.{Buildable, setting, first-place, last-place, keeps-rule, words-fit-16}
 
 -- the start copies of one budget are one copy
@@ -37,40 +39,177 @@ module _ (w : List ℕ) (K : Buildable w) where
   abbrev S : Setting
   S = setting w K
 
-  from-start : startCopies g (header w .budget ∷ []) ≡ copyOf 1 (K .start) ∷ []
-  from-start = one-start g (header w .budget) (K .start) (K .opens)
+  -- the records of the bounded sheet are the copies, in order, and their chains the copies' targets
+  pub record Copied (t : List ℕ) : Type 0 where
+    pub copies : heading t .copies ≡ length (sheetCopies w)
+    pub record-is : (i : ℕ) (c : Copy) → chosen (sheetCopies w) i ≡ some c → copyAt (heading t) t i ≡ c
+    pub edges-are : (i : ℕ) (c : Copy) → chosen (sheetCopies w) i ≡ some c
+        → targetsAt (heading t) t i ≡ map (targetNumber (sheetCopies w)) (targets (graph w) c)
 
-  falls : (c d : Copy) → List·Memᴰ c (copies S) → List·Memᴰ (some d) (targets g c) → (c .block ≡ 1 → ⊥) → d .low < c .low
-  falls c d m t n =
-      let e = target-mem g c d t in
-      let h = low-some g (S .laws) (d .block) _ (d .low) (e .1) in
-      let p = S .laws .paid (c .block) (d .block) (e .0) n in
-      let q = covers g (S .laws) (copy-sound S c m .1 .cost) in
-      omega (arith, h .below)
-
-  pub demand2 : Demand2 w (boundedSheet w)
-  unfolding sheetCopies boundedSheet sheetWords heading rowOf rowsOf copyAt wrongLength
-  demand2 =
+  pub copied : Copied (boundedSheet w)
+  unfolding sheetCopies boundedSheet sheetWords heading rowOf rowsOf copyAt
+  copied =
       let t = boundedSheet w in
       let rs = rowsOf g (copies S) in
       let row : (i : ℕ) (c : Copy) → chosen (copies S) i ≡ some c → Reads (heading t) t rs i (rowOf g (copies S) c)
       = λ i c q. reads (heading t) t rs (laid (header w .budget) rs) i (rowOf g (copies S) c) (row-at S i c q) in
       record {
-        start = K .start;
-        start-low = K .opens;
-        reached = λ c. (
-          λ m. subst (λ (l : List Copy). (j : ℕ) × Reached g l j c) from-start (in-reached S c m),
-          λ r. reached-in S (r .0) c (subst (λ (l : List Copy). Reached g l (r .0) c) (sym from-start) (r .1)),
-        );
-        falls = falls;
-        rising = rising-chosen (copies S) (rises S);
-        first = first-place w K;
-        second = last-place w K;
         copies = length-map (copies S) (rowOf g (copies S));
-        budget = refl;
-        size = eqb-true (length t) _ (not-false _ (clauses t (keeps-rule w K) .records .size));
         record-is = λ i c q. let r = row i c q in λ j. record { block = r .block j; low = r .low j };
         edges-are = λ i c q. row i c q .targets;
+      }
+
+  abbrev t : List ℕ
+  t = boundedSheet w
+
+  abbrev cs : List Copy
+  cs = copies S
+
+  -- the copy with a number
+  pub record At (i : ℕ) : Type 0 where
+    pub copy : Copy
+    pub chosen-is : chosen (copies S) i ≡ some copy
+    pub member : List·Memᴰ copy (copies S)
+    pub read : copyAt (heading t) t i ≡ copy
+    pub edges : targetsAt (heading t) t i ≡ map (targetNumber (copies S)) (targets g copy)
+
+  read-at : (i : ℕ) (c : Copy) → chosen cs i ≡ some c → copyAt (heading t) t i ≡ c
+  unfolding sheetCopies
+  read-at i c q = copied .record-is i c q
+
+  count-is : heading t .copies ≡ length cs
+  unfolding sheetCopies
+  count-is = copied .copies
+
+  at : (i : ℕ) → IsPlace w t i → At i
+  unfolding sheetCopies
+  at i p =
+      let x = chosen-some cs i (p .0) (omega (arith, p .1, count-is)) in
+      record {
+        copy = x .0;
+        chosen-is = x .1;
+        member = chosen-mem cs i (x .0) (x .1);
+        read = read-at i (x .0) (x .1);
+        edges = copied .edges-are i (x .0) (x .1);
+      }
+
+  place-of : (i : ℕ) (c : Copy) → chosen cs i ≡ some c → IsPlace w t i
+  place-of i c q = let l = chosen-le cs i c q in (l .0, omega (arith, l .1, count-is))
+
+  -- a choice's target, by the look-up
+  target-at : (c : Copy) (k v : ℕ) (o : Option ℕ) (r : ℕ) → chosen (g .next (c .block)) k ≡ some v → c .low ≡ g .cost (c .block) + r
+      → lowOf g v r ≡ o
+      → chosen (map (targetNumber cs) (targets g c)) k ≡ some (targetNumber cs (Option·map (copyOf v) o))
+  unfolding targets copyFor
+  target-at c k v o r q e f =
+      let x : c .low - g .cost (c .block) ≡ r = omega arith in
+      let y : lowOf g v (c .low - g .cost (c .block)) ≡ o = rw x f in
+      chosen-map (targetNumber cs) (targets g c) k
+      ∙ ap (Option·map (targetNumber cs)) (chosen-map (copyFor g (c .low - g .cost (c .block))) (g .next (c .block)) k)
+      ∙ ap (λ (p : Option ℕ). Option·map (targetNumber cs) (Option·map (copyFor g (c .low - g .cost (c .block))) p)) q
+      ∙ ap (λ (p : Option ℕ). some (targetNumber cs (Option·map (copyOf v) p))) y
+
+  -- DEMAND 2, of the copy that a record is
+  diverted-at : (i k v r : ℕ) (A : At i) → chosen (g .next (A .copy .block)) k ≡ some v → A .copy .low ≡ g .cost (A .copy .block) + r
+      → NoLow g v r → chosen (targetsAt (heading t) t i) k ≡ some 0
+  unfolding targetNumber
+  diverted-at i k v r A q e n =
+      ap (λ (l : List ℕ). chosen l k) (A .edges) ∙ target-at (A .copy) k v none r q e (no-low g (S .laws) n)
+
+  goes-at : (i k v r a : ℕ) (A : At i) → chosen (g .next (A .copy .block)) k ≡ some v → A .copy .low ≡ g .cost (A .copy .block) + r
+      → IsLow g v r a
+      → (n : ℕ) × IsPlace w t n × (chosen (targetsAt (heading t) t i) k ≡ some n) × (copyAt (heading t) t n ≡ copyOf v a)
+  unfolding targetNumber
+  goes-at i k v r a A q e h =
+      let m = edge-target g (S .laws) (A .copy) (copyOf v a) (chosen-mem (g .next (A .copy .block)) k v q) e h in
+      let n = numberFrom 1 (copyOf v a) cs in
+      let x : chosen cs n ≡ some (copyOf v a) = number-chosen (copyOf v a) cs (targets-in S (A .copy) (copyOf v a) (A .member) m) in (
+        n,
+        place-of n (copyOf v a) x,
+        ap (λ (l : List ℕ). chosen l k) (A .edges) ∙ target-at (A .copy) k v (some a) r q e (is-low g (S .laws) h),
+        read-at n (copyOf v a) x,
+      )
+
+  falls-at : (i n : ℕ) (A : At i) → List·Memᴰ n (targetsAt (heading t) t i) → n ≢ 0 → A .copy .block ≢ 1
+      → copyAt (heading t) t n .low < A .copy .low
+  falls-at i n A m z o =
+      let d = its-target S (A .copy) (A .member) n (subst (List·Memᴰ n) (A .edges) m) z in
+      let e = target-mem g (A .copy) (d .0) (d .1) in
+      let h = low-some g (S .laws) (d .0 .block) _ (d .0 .low) (e .1) in
+      let p = S .laws .paid (A .copy .block) (d .0 .block) (e .0) o in
+      let q = covers g (S .laws) (copy-sound S (A .copy) (A .member) .1 .cost) in
+      omega (arith, h .below, ap (λ (c : Copy). c .low) (read-at n (d .0) (d .2)))
+
+  length-at : (i : ℕ) (A : At i) → length (targetsAt (heading t) t i) ≡ length (g .next (A .copy .block))
+  unfolding targets
+  length-at i A =
+      ap length (A .edges) ∙ length-map (targets g (A .copy)) (targetNumber cs)
+      ∙ length-map (g .next (A .copy .block)) (copyFor g (A .copy .low - g .cost (A .copy .block)))
+
+  from-start : startCopies g (header w .budget ∷ []) ≡ copyOf 1 (K .start) ∷ []
+  from-start = one-start g (header w .budget) (K .start) (K .opens)
+
+  -- what is said of a record's copy holds of the copy that it is
+  module _ {i : ℕ} (A : At i) where
+    next-at : (k : ℕ) {v : ℕ} → chosen (g .next (copyAt (heading t) t i .block)) k ≡ some v → chosen (g .next (A .copy .block)) k ≡ some v
+    next-at k q = sym (ap (λ (c : Copy). chosen (g .next (c .block)) k) (A .read)) ∙ q
+
+    cost-at : (r : ℕ) → copyAt (heading t) t i .low ≡ g .cost (copyAt (heading t) t i .block) + r
+        → A .copy .low ≡ g .cost (A .copy .block) + r
+    cost-at r e =
+        sym (ap (λ (c : Copy). c .low) (A .read)) ∙ e ∙ ap (λ (c : Copy). g .cost (c .block) + r) (A .read)
+
+  budget-is : heading t .budget ≡ header w .budget
+  unfolding boundedSheet sheetWords heading
+  budget-is = refl
+
+  size-is : length t ≡ boundedLength (heading t)
+  unfolding wrongLength
+  size-is = eqb-true (length t) _ (not-false _ (clauses t (keeps-rule w K) .records .size))
+
+  pub demand2 : Demand2 w (boundedSheet w)
+  demand2 =
+      record {
+        low = λ i p.
+            let A = at i p in
+            subst (λ (c : Copy). Completion g (c .block) (c .low)) (sym (A .read)) (copy-sound S (A .copy) (A .member) .1 .cost);
+        serves = λ i r v x y a p h m e f.
+            serves g (S .laws) (copyAt (heading t) t i .block) v r (copyAt (heading t) t i .low) m h e f a;
+        start = K .start;
+        start-low = low-some g (S .laws) 1 (header w .budget) (K .start) (K .opens);
+        choices = λ i p.
+            let A = at i p in
+            length-at i A ∙ sym (ap (λ (c : Copy). length (g .next (c .block))) (A .read));
+        diverted = λ i k v r p q e n.
+            let A = at i p in
+            diverted-at i k v r A (next-at A k q) (cost-at A r e) n;
+        goes = λ i k v r a p q e h.
+            let A = at i p in
+            goes-at i k v r a A (next-at A k q) (cost-at A r e) h;
+        reached = λ c. (
+          λ r.
+              let A = at (r .0) (r .1) in
+              subst (λ (l : List Copy). (j : ℕ) × Reached g l j c) from-start
+              (in-reached S c (subst (λ (d : Copy). List·Memᴰ d cs) (sym (A .read) ∙ r .2) (A .member))),
+          λ r.
+              let m = reached-in S (r .0) c (subst (λ (l : List Copy). Reached g l (r .0) c) (sym from-start) (r .1)) in
+              let k = choice-of m in
+              (suc (k .0), place-of (suc (k .0)) c (k .1), read-at (suc (k .0)) c (k .1)),
+        );
+        falls = λ i n p m z o.
+            let A = at i p in
+            let x : copyAt (heading t) t n .low < A .copy .low = falls-at i n A m z (rw (A .read) at o) in
+            omega (arith, ap (λ (c : Copy). c .low) (A .read));
+        exit = λ c d. exit-cost g (S .laws) d refl;
+        budget = budget-is;
+        size = size-is;
+        rising = λ i j p l q.
+            let A = at i (p, omega arith) in
+            let C = at j (omega arith, q) in
+            rw (A .read, C .read) (rising-chosen cs (rises S) i j (A .copy) (C .copy) l (A .chosen-is) (C .chosen-is));
+        two = place-of 2 _ (last-place w K) .1;
+        first = read-at 1 _ (first-place w K);
+        second = read-at 2 _ (last-place w K);
         rule = keeps-rule w K;
         words-fit = words-fit-16 w K;
       }

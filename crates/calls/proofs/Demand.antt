@@ -9,11 +9,12 @@ use borrow.Author.Tests.{ltb-false}
 use lib.ListN.{length, take}
 use Rattle.base.proofs.Truth.{or-false}
 use Rattle.base.proofs.Orders.{unrefused, over-e}
-use Rattle.theory.specs.Machines.{End, going, exit, diverted, Reply, reply, final, zeros, Unchanged}
+use Rattle.theory.specs.Machines.{End, going, exit, diverted, Reply, reply, answers, final, zeros, Unchanged}
 use Rattle.theory.specs.Walks.{Walk, startAt, starting, mostMoves, InShape, monitor, Bounded, boundedWalk, Path}
 use Rattle.theory.specs.Setting.{Setting, Entry, entryPlace, LaysOut, Agrees, PathsKept}
 use Rattle.theory.proofs.Runs.{RunsAs, runs-as, unchanged-as, keeps-all}
 use Rattle.theory.proofs.Agreement.{agrees, paths-kept}
+use Rattle.theory.proofs.Monitor.{monitor-acts}
 use Rattle.theory.proofs.Shape.{monitor-kept, monitor-start, Held, held-shape, held-kept, held-start}
 use Rattle.formats.specs.Limits.{mostCopies, mostBoundedEdges}
 use Rattle.formats.specs.GraphSheet.{header}
@@ -21,13 +22,13 @@ use Rattle.formats.specs.BoundedSheet.{heading, sheetWords}
 use Rattle.calls.specs.SheetGraph.{graph, boundedSheet, readBounded}
 use Rattle.calls.specs.Weigh.{sheetArea, weighOrder}
 use Rattle.calls.specs.Build.{tooMany, Lent, buildOrder, outputAfter, build}
-use Rattle.calls.specs.Moves.{Move, monitoredReply, boundedMove}
-use Rattle.calls.specs.Demand.{boundedBlock, builtWords, Demand3}
-use Rattle.calls.specs.Construction.{Demand2}
+use Rattle.calls.specs.Moves.{Move, guardedReply, boundedMove}
+use Rattle.calls.specs.Demand.{byValue, boundedBlock, Demand3, KeepsDemand3}
+use Rattle.calls.specs.Construction.{builtWords, Demand2, KeepsDemand2}
 use Rattle.calls.proofs.Weigh.{weigh-numbered, weighs-e}
 use Rattle.calls.proofs.Built.{Buildable, setting, entry, entry-first, sheet-lays-out, keeps-rule}
 use Rattle.calls.proofs.Construction.{demand2}
-use Rattle.calls.proofs.Moves.{monitored-as, bounded-as}
+use Rattle.calls.proofs.Moves.{guarded-as, bounded-as}
 use Rattle.calls.proofs.Area.{output-words}
 
 -- an accepted build
@@ -64,11 +65,11 @@ module _ (w : List ℕ) (K : Buildable w) where
   monitor-shape : (ks : List ℕ) → InShape N 2 B (final (reply (monitor (graph w) B)) starting ks)
   monitor-shape ks = keeps-all (monitor (graph w) B) (InShape N 2 B) (monitor-kept S B) ks starting (monitor-start S B)
 
-  monitored-run : (ms : List Move) → ((i : Move) → List·Memᴰ i ms → sheetArea w ≤ length (i .area))
-      → RunsAs (monitoredReply w) (reply (monitor (graph w) B)) starting ms (map (λ i. i .choice) ms)
-  monitored-run ms room =
-      runs-as (monitor (graph w) B) (monitoredReply w) (λ i. i .choice) (InShape N 2 B) (λ i. sheetArea w ≤ length (i .area)) (monitor-kept S B)
-      (λ s h i room. monitored-as w i s (K .start) (K .ok) room (K .opens) h) ms room starting (monitor-start S B)
+  guarded-run : (ms : List Move) → ((i : Move) → List·Memᴰ i ms → sheetArea w ≤ length (i .area))
+      → RunsAs (guardedReply w) (reply (monitor (graph w) B)) starting ms (map (λ i. i .choice) ms)
+  guarded-run ms room =
+      runs-as (monitor (graph w) B) (guardedReply w) (λ i. i .choice) (InShape N 2 B) (λ i. sheetArea w ≤ length (i .area)) (monitor-kept S B)
+      (λ s h i room. guarded-as w i s (K .start) (K .ok) room (K .opens) h) ms room starting (monitor-start S B)
 
   abbrev pub OnCopies : Walk → Type 0
   OnCopies = Held S m Y E
@@ -100,12 +101,12 @@ module _ (w : List ℕ) (K : Buildable w) where
   paths = subst (PathsKept S m B) at-start (paths-kept S m Y E)
 
   -- while going, the choice 1 is answered 0
-  monitored-next : (ks : List ℕ) (z : Walk) → z ≡ final (reply (monitor (graph w) B)) starting ks → z .end ≡ going
-      → (area : List ℕ) → sheetArea w ≤ length area → monitoredReply w z (record { choice = 1; area = area }) .answer ≡ 0
-  monitored-next ks z q e area room =
+  guarded-next : (ks : List ℕ) (z : Walk) → z ≡ final (reply (monitor (graph w) B)) starting ks → z .end ≡ going
+      → (area : List ℕ) → sheetArea w ≤ length area → guardedReply w z (record { choice = 1; area = area }) .answer ≡ 0
+  guarded-next ks z q e area room =
       let i : Move = record { choice = 1; area = area } in
-      ap (λ (s : Walk). monitoredReply w s i .answer) q
-      ∙ ap (λ (r : Reply Walk). r .answer) (monitored-as w i _ (K .start) (K .ok) room (K .opens) (monitor-shape ks))
+      ap (λ (s : Walk). guardedReply w s i .answer) q
+      ∙ ap (λ (r : Reply Walk). r .answer) (guarded-as w i _ (K .start) (K .ok) room (K .opens) (monitor-shape ks))
       ∙ agreed ks .monitor-onward (sym (ap (λ (s : Walk). s .end) q) ∙ e)
 
   bounded-next : (ks : List ℕ) (z : Walk) → z ≡ final (reply (boundedWalk m)) starting ks → z .end ≡ going → boundedMove t z 1 .answer ≡ 0
@@ -131,48 +132,49 @@ module _ (w : List ℕ) (K : Buildable w) where
       let u = unchanged-as (bounded-run ks) (boundedBlock t) (λ s. s .end) bs in
       (λ l. u .0 (p .0 l), λ h. p .1 (u .1 h))
 
-  whole : (ms : List Move) → ((i : Move) → List·Memᴰ i ms → sheetArea w ≤ length (i .area)) → Demand3 w t ms
+  whole : (ms : List Move) → ((i : Move) → List·Memᴰ i ms → sheetArea w ≤ length (i .area)) → Demand3 byValue w t ms
   unfolding readBounded mostMoves
   whole ms room =
       let ks = map (λ i. i .choice) ms in
-      let x = monitored-run ms room in
+      let x = guarded-run ms room in
       let y = bounded-run ks in
       let d = agreed ks in
       let z = final (reply (boundedWalk m)) starting ks in
       let count = ap (λ (s : Walk). s .count) (y .last) in
       let end = ap (λ (s : Walk). s .end) (y .last) in
+      let moves : z .count ≡ zeros (answers (boundedMove t) starting ks) = d .moves ∙ sym (ap zeros (y .answer)) in
       record {
-        monitored-answers = x .answer;
+        monitor-acts = monitor-acts (graph w) (S .laws) B;
+        guarded-answers = x .answer;
         bounded-answers = y .answer ∙ d .answer;
-        monitored-block = ap (λ (s : Walk). s .place) (x .last);
+        guarded-block = ap (λ (s : Walk). s .place) (x .last);
         bounded-block = ap (boundedBlock t) (y .last) ∙ d .block;
-        monitored-end = ap (λ (s : Walk). s .end) (x .last);
+        guarded-end = ap (λ (s : Walk). s .end) (x .last);
         bounded-end = end ∙ d .end;
-        monitored-count = ap (λ (s : Walk). s .count) (x .last);
-        monitored-most = omega (arith, d .count, ap (λ (s : Walk). s .count) (x .last));
-        bounded-count = count ∙ d .moves ∙ sym (ap zeros (y .answer));
+        guarded-count = ap (λ (s : Walk). s .count) (x .last);
+        guarded-most = omega (arith, d .count, ap (λ (s : Walk). s .count) (x .last));
+        bounded-count = count ∙ moves;
         bounded-going = λ e. omega (arith, count, most-of z going (sym end ∙ e) (d .most));
         bounded-ended = omega (arith, count, d .most, at-most (z .end));
+        ends-within = λ l e. omega (arith, moves, most-of z going (sym end ∙ e) (d .most));
         monitor-onward = λ e. (1, d .monitor-onward e);
-        monitored-onward = λ e. (1, monitored-next ks _ (x .last) e);
+        guarded-onward = λ e. (1, guarded-next ks _ (x .last) e);
         bounded-onward = λ e. (1, bounded-next ks _ (y .last) e);
         paths-kept = kept;
       }
 
--- THE TWO DEMANDS: of every build that answers 0, on the words that it filled
-module _ (i : Lent) (accepted : build i .answer ≡ 0) where
-  -- what it filled is the bounded sheet
-  filled-words : builtWords i ≡ boundedSheet (i .sheet)
-  unfolding build
-  filled-words =
-      ap (λ (a : ℕ). take (length (boundedSheet (i .sheet))) (outputAfter (i .sheet) a (i .output))) accepted
-      ∙ output-words (i .sheet) (i .output)
+-- what an accepted build filled is the bounded sheet
+filled-words : (i : Lent) → build i .answer ≡ 0 → builtWords i ≡ boundedSheet (i .sheet)
+unfolding build
+filled-words i accepted =
+    ap (λ (a : ℕ). take (length (boundedSheet (i .sheet))) (outputAfter (i .sheet) a (i .output))) accepted
+    ∙ output-words (i .sheet) (i .output)
 
-  pub keeps-demand2 : Demand2 (i .sheet) (builtWords i)
-  keeps-demand2 = subst (Demand2 (i .sheet)) (sym filled-words) (demand2 (i .sheet) (buildable i accepted))
+-- THE TWO DEMANDS
+pub keeps-demand2 : KeepsDemand2
+keeps-demand2 i accepted = subst (Demand2 (i .sheet)) (sym (filled-words i accepted)) (demand2 (i .sheet) (buildable i accepted))
 
-  -- over every list of choices, with any work areas that 21 lets pass
-  pub keeps-demand3 : (ms : List Move) → ((m : Move) → List·Memᴰ m ms → sheetArea (i .sheet) ≤ length (m .area))
-      → Demand3 (i .sheet) (builtWords i) ms
-  keeps-demand3 ms room =
-      subst (λ (t : List ℕ). Demand3 (i .sheet) t ms) (sym filled-words) (whole (i .sheet) (buildable i accepted) ms room)
+pub keeps-demand3 : KeepsDemand3 byValue
+keeps-demand3 i accepted ms room =
+    subst (λ (t : List ℕ). Demand3 byValue (i .sheet) t ms) (sym (filled-words i accepted))
+    (whole (i .sheet) (buildable i accepted) ms room)

@@ -6,14 +6,18 @@ pub mod SettingRows
 pub mod Built
 -- demand 2, from what an accepted build says of its sheet: demand2
 pub mod Construction
--- what an answer 0 of weighing says: weighs-e
+-- what an answer of weighing says, and which are checked before 9: weighs-e, weighs-late, spared
 pub mod Weigh
--- calls reply as the machines do: monitored-as, bounded-as
+-- the two calls case by case: sheet-refuses, shape-refuses, machine-replies, guarded-as, bounded-as
 pub mod Moves
 -- demands 2 and 3 from the build's answer 0: keeps-demand2, keeps-demand3
 pub mod Demand
 -- the work area's cells and the output row after a call: cell-filled, rest-untouched, output-words
 pub mod Area
+-- what 9 and the work area say of a sheet's completions: nine-is-exact, build-fills
+pub mod Filled
+-- calls on another form of a walk keep demand 3 too: held-demand3
+pub mod Forms
 -- the starred examples and the refusals, row by row: starred, pinned
 pub mod Rows
 -- what a report says of a sheet: sheet-accepted, sheet-refused, listed, unused-exactly

@@ -1,28 +1,122 @@
--- A walk in shape, on an accepted sheet and with area enough, is refused by 32 and 31 alone: its calls reply as the machines do.
--- Rests on base Orders, theory Walks, formats RuleKept, Weigh.
-use mathlib.Core.Path.{_≡_, refl}
+-- The two calls, case by case: the sheet is refused, the walk is out of shape, or the machine replies, which brings 32 and 31.
+-- Rests on base Lists and Orders, theory Machines and Walks, formats RuleKept, Weigh.
+use mathlib.Core.Path.{_≡_, refl, sym, ap, _∙_}
 use mathlib.Core.Bool.{Bool, true, false, not, Bool·beq}
-use mathlib.Core.List.{List}
-use mathlib.Core.Option.{some}
-use Prim.Native.Nat.{ℕ, _≤_}
+use mathlib.Core.List.{List, _∷_, [], _++_}
+use mathlib.Core.Option.{Option, some, none, Option·none-ne-some}
+use Prim.Native.Nat.{ℕ, zero, suc, _≤_}
+use native.Mathlib.Omega.{arith}
 use borrow.Author.Tests.{le-ltb}
 use lib.Dec.{eqb}
 use lib.ListN.{length}
-use Rattle.base.specs.Checks.{refused}
-use Rattle.base.proofs.Orders.{passed, none-left, over-i, not-outside}
+use Rattle.base.specs.Lists.{chosen}
+use Rattle.base.specs.Checks.{Order, refused, over, lentAfter, outside}
+use Rattle.base.proofs.Truth.{not-both}
+use Rattle.base.proofs.Lists.{chosen-le, chosen-some}
+use Rattle.base.proofs.Orders.{Numbered, pick, tested, none-left, over-is, over-stops, over-passes, inside-of, not-outside, refused-lent}
 use Rattle.theory.specs.Completions.{lowOf}
-use Rattle.theory.specs.Machines.{Reply, reply}
-use Rattle.theory.specs.Walks.{Walk, isExit, InShape, mostMoves, monitor, boundedWalk}
+use Rattle.theory.specs.Machines.{End, going, exit, diverted, Reply, Machine, taken, replyAt, reply}
+use Rattle.theory.specs.Walks.{Walk, isExit, hasEnded, InShape, mostMoves, monitor, boundedWalk}
 use Rattle.formats.specs.GraphSheet.{header, sheetRefusal}
 use Rattle.formats.specs.BoundedSheet.{heading}
 use Rattle.formats.specs.Rule11.{boundedOrder, boundedRefusal}
 use Rattle.formats.proofs.RuleKept.{bounded-numbered}
 use Rattle.calls.specs.SheetGraph.{graph, readBounded}
-use Rattle.calls.specs.Weigh.{sheetArea, weighOrder}
+use Rattle.calls.specs.Weigh.{Weighing, sheetArea, weighOrder}
 use Rattle.calls.proofs.Weigh.{weigh-numbered, weighs}
-use Rattle.calls.specs.Moves.{outOfShape, Move, MonitoredInput, BoundedInput, monitoredOrder, boundedMoveOrder, unless, monitoredReply}
-use Rattle.calls.specs.Moves.{boundedMove}
+use Rattle.calls.specs.Moves.{outOfShape, Standing, moveOrder, moved, Move, GuardedInput, onGraph, guardedOrder, guardedReply}
+use Rattle.calls.specs.Moves.{BoundedInput, onBounded, boundedMoveOrder, boundedMove}
 
+-- 31 is where the list has no such element
+unchosen : {X : Type 0} (xs : List X) (k : ℕ) → chosen xs k ≡ none → outside 1 (length xs) k ≡ true
+unchosen xs k e = go (outside 1 (length xs) k) refl
+  where
+    go : (b : Bool) → outside 1 (length xs) k ≡ b → outside 1 (length xs) k ≡ true
+    go true p = p
+    go false p =
+        let l = inside-of 1 (length xs) k p in
+        let x = chosen-some xs k (l .0) (l .1) in
+        absurd (Option·none-ne-some (x .0) (sym e ∙ x .1))
+
+-- A CALL on a walk: some order over a part of the input, then 33, 32 and 31 of where the walk stands on a machine
+module _ (m : Machine Walk ℕ) where
+  -- under a refusal of its own the machine stays, so that nothing is left to keep
+  reply-lent : (s : Walk) (k : ℕ) → lentAfter (reply m s k .answer) s (reply m s k .after) ≡ reply m s k .after
+  unfolding lentAfter reply replyAt taken
+  reply-lent s k = by-end (m .stands s)
+    where
+      by-choice : (o : Option ℕ) → lentAfter (taken m s o .answer) s (taken m s o .after) ≡ taken m s o .after
+      by-choice none = refl
+      by-choice (some x) = refl
+
+      by-end : (e : End) → lentAfter (replyAt m e s k .answer) s (replyAt m e s k .after) ≡ replyAt m e s k .after
+      by-end going = by-choice (chosen (m .targets s) k)
+      by-end exit = refl
+      by-end diverted = refl
+
+  module _ (i : Standing) (stand : m .stands (i .walk) ≡ i .walk .end) (same : m .targets (i .walk) ≡ i .targets) where
+    -- 32 and 31 are the machine's
+    last-two : refused ((32, λ (i : Standing). hasEnded (i .walk .end)) ∷ (31, λ (i : Standing). outside 1 (length (i .targets)) (i .choice)) ∷ []) i
+        ≡ reply m (i .walk) (i .choice) .answer
+    unfolding reply replyAt taken hasEnded
+    last-two =
+        let r = tested 31 (λ (i : Standing). outside 1 (length (i .targets)) (i .choice)) [] i refl (none-left i) in
+        tested 32 (λ (i : Standing). hasEnded (i .walk .end)) _ i refl r ∙ rw (stand) (by-end (i .walk .end))
+      where
+        by-choice : (o : Option ℕ) → chosen (i .targets) (i .choice) ≡ o
+            → pick (outside 1 (length (i .targets)) (i .choice)) 31 0 ≡ taken m (i .walk) o .answer
+        by-choice none e = rw (unchosen (i .targets) (i .choice) e)
+        by-choice (some x) e =
+            let l = chosen-le (i .targets) (i .choice) x e in rw (not-outside 1 (length (i .targets)) (i .choice) (l .0) (l .1))
+
+        by-end : (e : End)
+            → pick (hasEnded e) 32 (pick (outside 1 (length (i .targets)) (i .choice)) 31 0) ≡ replyAt m e (i .walk) (i .choice) .answer
+        by-end going = rw same (by-choice (chosen (i .targets) (i .choice)) refl)
+        by-end exit = refl
+        by-end diverted = refl
+
+  module _ {I J : Type 0} (f : J → I) (rs : Order I) (n : Numbered rs) (g : J → Standing) (j : J) where
+    abbrev s : Walk
+    s = g j .walk
+
+    abbrev r : Reply Walk
+    r = reply m (g j .walk) (g j .choice)
+
+    abbrev order : Order J
+    order = over f rs ++ over g moveOrder
+
+    refuses : (a : ℕ) → (a ≡ 0 → ⊥) → refused order j ≡ a → moved (refused order j) s r ≡ record { answer = a; after = s }
+    unfolding moved
+    refuses a z e = rw e (λ i. record { answer = a; after = sym (refused-lent s (r .after) a z) i })
+
+    -- the sheet is refused
+    pub sheet-refuses : {a : ℕ} → a ≡ refused rs (f j) → (a ≡ 0 → ⊥)
+        → moved (refused (over f rs ++ over g moveOrder) j) (g j .walk) (reply m (g j .walk) (g j .choice))
+        ≡ record { answer = a; after = g j .walk }
+    sheet-refuses {a} e z = refuses a z (over-stops f rs (over g moveOrder) j (λ q. z (e ∙ q)) ∙ sym e)
+
+    module _ (e : refused rs (f j) ≡ 0) where
+      behind : refused order j ≡ refused moveOrder (g j)
+      behind = over-passes f rs (over g moveOrder) j n e ∙ over-is g moveOrder j
+
+      -- the walk is out of shape
+      pub shape-refuses : outOfShape (g j .places) (g j .last) (g j .most) (g j .walk) ≡ true
+          → moved (refused (over f rs ++ over g moveOrder) j) (g j .walk) (reply m (g j .walk) (g j .choice))
+          ≡ record { answer = 33; after = g j .walk }
+      unfolding moveOrder
+      shape-refuses t = refuses 33 (λ z. omega arith) (behind ∙ tested 33 _ _ (g j) t refl)
+
+      -- the machine replies
+      pub machine-replies : m .stands (g j .walk) ≡ g j .walk .end → m .targets (g j .walk) ≡ g j .targets
+          → outOfShape (g j .places) (g j .last) (g j .most) (g j .walk) ≡ false
+          → moved (refused (over f rs ++ over g moveOrder) j) (g j .walk) (reply m (g j .walk) (g j .choice))
+          ≡ reply m (g j .walk) (g j .choice)
+      unfolding moved moveOrder
+      machine-replies stand same t =
+          let a : refused order j ≡ r .answer = behind ∙ tested 33 _ _ (g j) t (last-two (g j) stand same) in
+          rw a (λ i. record { answer = r .answer; after = reply-lent s (g j .choice) i })
+
+-- A WALK IN SHAPE is not refused by 33
 beq-refl : (a b : Bool) → a ≡ b → not (Bool·beq a b) ≡ false
 beq-refl a b e = rw e (go b)
   where
@@ -36,26 +130,21 @@ in-shape n x m s h =
     rw (not-outside 1 n (s .place) (h .place .0) (h .place .1), beq-refl (isExit (s .end)) (eqb (s .place) x) (h .ended))
     (le-ltb m (s .count) (h .count))
 
-unless-zero : (n : ℕ) (s : Walk) (r : Reply Walk) → n ≡ 0 → unless n s r ≡ r
-unfolding unless
-unless-zero n s r e = rw e
-
-pub monitored-as : (w : List ℕ) (i : Move) (s : Walk) (a : ℕ) → sheetRefusal w ≡ 0 → sheetArea w ≤ length (i .area)
+-- THE TWO CALLS on walks in shape and accepted sheets reply as the machines do
+pub guarded-as : (w : List ℕ) (i : Move) (s : Walk) (a : ℕ) → sheetRefusal w ≡ 0 → sheetArea w ≤ length (i .area)
     → lowOf (graph w) 1 (header w .budget) ≡ some a
-    → InShape (header w .blocks) 2 (header w .budget) s → monitoredReply w s i ≡ reply (monitor (graph w) (header w .budget)) s (i .choice)
-unfolding monitoredReply monitoredOrder
-monitored-as w i s a e room low h =
-    let x : MonitoredInput = record { sheet = w; area = i .area; walk = s } in
-    unless-zero (refused monitoredOrder x) s _
-    (over-i (λ (i : MonitoredInput). record { sheet = i .sheet; area = i .area }) weighOrder _ x weigh-numbered (weighs w (i .area) a e room low)
-    (passed 33 _ _ x (in-shape (header w .blocks) 2 (header w .budget) s h) (none-left x)))
+    → InShape (header w .blocks) 2 (header w .budget) s → guardedReply w s i ≡ reply (monitor (graph w) (header w .budget)) s (i .choice)
+unfolding guardedReply guardedOrder monitor
+guarded-as w i s a e room low h =
+    let x : GuardedInput = record { sheet = w; area = i .area; walk = s; choice = i .choice } in
+    machine-replies (monitor (graph w) (header w .budget)) _ weighOrder weigh-numbered onGraph x (weighs w (i .area) a e room low) refl refl
+    (in-shape (header w .blocks) 2 (header w .budget) s h)
 
 pub bounded-as : (t : List ℕ) (s : Walk) (k : ℕ) → boundedRefusal t ≡ 0
     → InShape (readBounded t .size) (readBounded t .last) (mostMoves (heading t .budget) (s .end)) s
     → boundedMove t s k ≡ reply (boundedWalk (readBounded t)) s k
-unfolding boundedMove boundedMoveOrder boundedRefusal
+unfolding boundedMove boundedMoveOrder boundedRefusal boundedWalk
 bounded-as t s k e h =
-    let x : BoundedInput = record { sheet = t; walk = s } in
+    let x : BoundedInput = record { sheet = t; walk = s; choice = k } in
     let m = readBounded t in
-    unless-zero (refused boundedMoveOrder x) s _ (over-i (λ i. i .sheet) boundedOrder _ x bounded-numbered e
-    (passed 33 _ _ x (in-shape (m .size) (m .last) _ s h) (none-left x)))
+    machine-replies (boundedWalk m) _ boundedOrder bounded-numbered onBounded x e refl refl (in-shape (m .size) (m .last) _ s h)

@@ -7,11 +7,11 @@ use Prim.Native.Nat.{ℕ}
 use lib.ListN.{replicate}
 use Rattle.base.specs.Lists.{any, all, keep, each, chosen, isNone, from, member, distinct, equal}
 use Rattle.base.specs.Copy.{same, before, isIn, numberFrom}
-use Rattle.base.specs.Checks.{Order, refused, over, outside}
-use Rattle.theory.specs.Completions.{within, completes, largest, lowOf}
+use Rattle.base.specs.Checks.{refused, over, numbersOf, numbersBefore, lentAfter, outside}
+use Rattle.theory.specs.Completions.{within, completes, largest, lowOf, fits}
 use Rattle.theory.specs.Copies.{copyFor, targets, add, join, spread, candidates, startCopies, copiesFrom, targetNumber}
 use Rattle.theory.specs.Machines.{taken, replyAt, reply, answers, final}
-use Rattle.theory.specs.Walks.{startAt, endAt, mostMoves, isExit, monitorTake, monitor, boundedTake, boundedWalk}
+use Rattle.theory.specs.Walks.{startAt, endAt, mostMoves, isExit, hasEnded, monitorTake, monitor, boundedTake, boundedWalk}
 use Rattle.formats.specs.Words.{follow, unsound}
 use Rattle.formats.specs.GraphSheet.{header, costWord, firstWord, targetWord, nextWord, chain, met, successors}
 use Rattle.formats.specs.GraphSheet.{short, badCounts, badLength, badBudget, costFits, badCosts, badTargets, badChains, exitChain}
@@ -29,7 +29,7 @@ use Rattle.calls.specs.SheetGraph.{graph, sheetCopies, rowOf, rowsOf, bo
 use Rattle.calls.specs.Area.{areaSize, marks, byteOf, bytes, filled}
 use Rattle.calls.specs.Weigh.{sheetArea, smallArea, nothingFits, weighOrder, beforeWeighing, areaAfter}
 use Rattle.calls.specs.Build.{tooMany, smallOutput, buildOrder, outputAfter, build}
-use Rattle.calls.specs.Moves.{outOfShape, unless, monitoredOrder, monitoredReply, monitoredMove, boundedMoveOrder, boundedMove}
+use Rattle.calls.specs.Moves.{outOfShape, moveOrder, moved, guardedOrder, guardedReply, guardedMove, boundedMoveOrder, boundedMove}
 use Rattle.calls.specs.Program.{listingOrder, sheetListing, listing}
 use Rattle.calls.specs.Report.{sheetFigures, figures, report}
 use Rattle.calls.specs.Cases.{Case, endNumber, sheetShown, outcome}
@@ -37,18 +37,14 @@ use Rattle.formats.specs.Samples.{paper, loop, twice, least, six, inBytes}
 use Rattle.calls.specs.Examples.{examples}
 use Rattle.calls.specs.Refusals.{sparing, refusals}
 
--- the numbers of an order
-abbrev numbersOf : {I : Type 0} → Order I → List ℕ
-numbersOf rs = map (λ r. r .0) rs
-
 -- every row comes out as it says
 abbrev pub Pinned : List (Case × List ℕ) → Type 0
 Pinned rows = map (λ r. outcome (r .0)) rows ≡ map (λ r. r .1) rows
 
 pub starred : Pinned examples
 unfolding examples paper loop twice least inBytes
-    any all keep each chosen isNone from member distinct equal same before isIn numberFrom refused over outside
-    within completes largest lowOf copyFor targets add join spread candidates startCopies copiesFrom targetNumber
+    any all keep each chosen isNone from member distinct equal same before isIn numberFrom refused over lentAfter outside
+    within completes largest lowOf fits copyFor targets add join spread candidates startCopies copiesFrom targetNumber
     follow unsound header costWord firstWord targetWord nextWord chain met successors
     short badCounts badLength badBudget costFits badCosts badTargets badChains exitChain sheetOrder
     firstEdge edgeRecords copyWords edgeWords edgeCount sheetWords
@@ -62,9 +58,9 @@ starred = refl
 
 pub pinned : Pinned refusals
 unfolding refusals six loop least sparing inBytes
-    any all keep each chosen isNone from member distinct equal same before isIn numberFrom refused over outside
-    within completes largest lowOf copyFor targets add join spread candidates startCopies copiesFrom targetNumber
-    taken replyAt reply answers final startAt endAt mostMoves isExit monitorTake monitor boundedTake boundedWalk
+    any all keep each chosen isNone from member distinct equal same before isIn numberFrom refused over lentAfter outside
+    within completes largest lowOf fits copyFor targets add join spread candidates startCopies copiesFrom targetNumber
+    taken replyAt reply answers final startAt endAt mostMoves isExit hasEnded monitorTake monitor boundedTake boundedWalk
     follow unsound header costWord firstWord targetWord nextWord chain met successors
     short badCounts badLength badBudget costFits badCosts badTargets badChains exitChain sheetOrder
     firstEdge edgeRecords copyWords edgeWords edgeCount sheetWords
@@ -73,8 +69,8 @@ unfolding refusals six loop least sparing inBytes
     badExit badEdgeOrder badTargetWords boundedOrder boundedRefusal
     wordOf wordsOf oddBytes digits decimal line headingLine copyLine listingOf refusalOf
     graph sheetCopies rowOf rowsOf boundedSheet readBounded marks byteOf bytes areaSize filled sheetArea
-    smallArea nothingFits weighOrder beforeWeighing areaAfter tooMany smallOutput buildOrder outputAfter build
-    outOfShape unless monitoredOrder monitoredReply monitoredMove boundedMoveOrder boundedMove listingOrder sheetListing listing
+    smallArea nothingFits weighOrder numbersOf numbersBefore beforeWeighing areaAfter tooMany smallOutput buildOrder outputAfter build
+    outOfShape moveOrder moved guardedOrder guardedReply guardedMove boundedMoveOrder boundedMove listingOrder sheetListing listing
     sheetsUpTo sheets unusedBlocks refusedAs figuresLine refusedLine sheetLine plus sums totalLine
     greater mostOf most mostLine unusedLine unusedLines eachSheet reportOf
     sheetFigures figures report endNumber outcome
@@ -82,17 +78,24 @@ pinned = refl
 
 -- each order's numbers, as document 01 lists them; no sheet small enough to compute passes the limits of 10, so its place and its limits
 -- stand here
-pub orders : numbersOf buildOrder ∷ numbersOf monitoredOrder ∷ numbersOf boundedMoveOrder ∷ numbersOf partOrder ∷ numbersOf countOrder
+pub orders : numbersOf buildOrder ∷ numbersOf guardedOrder ∷ numbersOf boundedMoveOrder ∷ numbersOf partOrder ∷ numbersOf countOrder
     ∷ numbersOf listingOrder ∷ []
     ≡ (1 ∷ 2 ∷ 3 ∷ 4 ∷ 5 ∷ 6 ∷ 7 ∷ 8 ∷ 21 ∷ 9 ∷ 10 ∷ 22 ∷ [])
-    ∷ (1 ∷ 2 ∷ 3 ∷ 4 ∷ 5 ∷ 6 ∷ 7 ∷ 8 ∷ 21 ∷ 9 ∷ 33 ∷ [])
-    ∷ (replicate 12 11 ++ (33 ∷ []))
+    ∷ (1 ∷ 2 ∷ 3 ∷ 4 ∷ 5 ∷ 6 ∷ 7 ∷ 8 ∷ 21 ∷ 9 ∷ 33 ∷ 32 ∷ 31 ∷ [])
+    ∷ (replicate 12 11 ++ (33 ∷ 32 ∷ 31 ∷ []))
     ∷ (replicate 12 11 ++ (33 ∷ []))
     ∷ (1 ∷ 2 ∷ 3 ∷ 4 ∷ 5 ∷ 6 ∷ 7 ∷ 8 ∷ 33 ∷ [])
     ∷ (1 ∷ 2 ∷ 3 ∷ 4 ∷ 5 ∷ 6 ∷ 7 ∷ 8 ∷ 9 ∷ 10 ∷ [])
     ∷ []
-unfolding over sheetOrder boundedOrder weighOrder buildOrder monitoredOrder boundedMoveOrder partOrder countOrder listingOrder
+unfolding over numbersOf sheetOrder boundedOrder weighOrder buildOrder moveOrder guardedOrder boundedMoveOrder
+    partOrder countOrder listingOrder
 orders = refl
+
+-- "The work area keeps its content under each number checked before 9": in both orders the same
+pub before-9 : numbersBefore 9 (numbersOf buildOrder) ∷ numbersBefore 9 (numbersOf guardedOrder) ∷ numbersBefore 9 (numbersOf weighOrder) ∷ []
+    ≡ replicate 3 (1 ∷ 2 ∷ 3 ∷ 4 ∷ 5 ∷ 6 ∷ 7 ∷ 8 ∷ 21 ∷ [])
+unfolding over numbersOf numbersBefore sheetOrder weighOrder buildOrder moveOrder guardedOrder
+before-9 = refl
 
 pub largest-sheets : map (λ (p : ℕ × ℕ). tooMany (record { copies = p .0; edges = p .1; budget = 0; records = 3 }))
     ((4096, 8192) ∷ (4097, 8192) ∷ (4096, 8193) ∷ []) ≡ false ∷ true ∷ true ∷ []

@@ -61,17 +61,16 @@ module _ (S : Setting) where
       go none e p = absurd (Option·none-ne-some r p)
       go (some c) e p = (c, e, Option·some-injective _ r p)
 
-  -- a target's word is 0 or the number of a copy that is no start copy
-  pub target : (c : Copy) → List·Memᴰ c cs → (t : ℕ) → List·Memᴰ t (map (targetNumber cs) (targets g c)) → t ≢ 0
-      → (d : Copy) × (chosen cs t ≡ some d) × (2 ≤ d .block)
+  -- a target's word is 0 or the number of a target
+  pub its-target : (c : Copy) → List·Memᴰ c cs → (t : ℕ) → List·Memᴰ t (map (targetNumber cs) (targets g c)) → t ≢ 0
+      → (d : Copy) × List·Memᴰ (some d) (targets g c) × (chosen cs t ≡ some d)
   unfolding targetNumber
-  target c m t i n = let o = Memᴰ·of-map (targetNumber cs) (targets g c) i in go (o .0) (o .1) (o .2)
+  its-target c m t i n = let o = Memᴰ·of-map (targetNumber cs) (targets g c) i in go (o .0) (o .1) (o .2)
     where
-      go : (o : Option Copy) → List·Memᴰ o (targets g c) → targetNumber cs o ≡ t → (d : Copy) × (chosen cs t ≡ some d) × (2 ≤ d .block)
+      go : (o : Option Copy) → List·Memᴰ o (targets g c) → targetNumber cs o ≡ t
+          → (d : Copy) × List·Memᴰ (some d) (targets g c) × (chosen cs t ≡ some d)
       go none k e = absurd (n (sym e))
-      go (some d) k e =
-          let at : chosen cs t ≡ some d = ap (chosen cs) (sym e) ∙ number-chosen d cs (targets-in S c d m k) in
-          (d, at, S .laws .above (c .block) (d .block) (target-mem g c d k .0))
+      go (some d) k e = (d, k, ap (chosen cs) (sym e) ∙ number-chosen d cs (targets-in S c d m k))
 
   -- RULE 11, the clauses that go by the records
 
@@ -111,12 +110,13 @@ module _ (S : Setting) where
         low = h .small;
         exit = λ e. (ap (λ (c : Copy). c .low) (exit-only S c m e), no-targets c e);
         targets = λ t i n.
-            let d = target c m t i n in
-            let l = chosen-le cs t (d .0) (d .1) in
+            let d = its-target c m t i n in
+            let l = chosen-le cs t (d .0) (d .2) in
+            let two = S .laws .above (c .block) (d .0 .block) (target-mem g c (d .0) (d .1) .0) in
             let k : t ≢ 1 = λ e.
             let f = first-copy S in
-            let z : d .0 ≡ f .0 = Option·some-injective _ _ (sym (d .1) ∙ ap (chosen cs) e ∙ f .1) in
-            absurd (omega (arith, d .2, ap (λ (c : Copy). c .block) z, f .2)) in
+            let z : d .0 ≡ f .0 = Option·some-injective _ _ (sym (d .2) ∙ ap (chosen cs) e ∙ f .1) in
+            absurd (omega (arith, two, ap (λ (c : Copy). c .block) z, f .2)) in
             (omega (arith, l .0), omega (arith, l .1, length-map cs (rowOf g cs)));
       }
 

@@ -26,10 +26,9 @@ use Rattle.calls.specs.Weigh.{nothingFits}
 use Rattle.calls.specs.Build.{tooMany}
 use Rattle.calls.specs.Program.{listingOrder}
 use Rattle.calls.specs.Report.{acceptedFigures, sheetFigures}
-use Rattle.calls.specs.Construction.{Demand2}
 use Rattle.calls.proofs.Weigh.{some-low}
 use Rattle.calls.proofs.Built.{Buildable, setting}
-use Rattle.calls.proofs.Construction.{demand2}
+use Rattle.calls.proofs.Construction.{Copied, copied, demand2}
 
 -- THE FIGURES, by the answer
 pub sheet-accepted : (w : List ℕ) → refused listingOrder w ≡ 0 → sheetFigures w ≡ acceptedFigures w
@@ -55,13 +54,18 @@ listed w e =
 pub some-figures : (w : List ℕ) → refused listingOrder w ≡ 0 → (1 ≤ header w .blocks) × (1 ≤ heading (boundedSheet w) .copies)
 some-figures w e =
     let K = listed w e in
-    let D = demand2 w K in
-    omega (arith, blocks w (accepted w (K .ok)), D .copies, chosen-le (sheetCopies w) 1 _ (D .first))
+    omega (arith, blocks w (accepted w (K .ok)), demand2 w K .two)
 
 -- THE UNUSED BLOCKS
 
 -- the blocks of a bounded sheet's records are those of the copies
-module _ (w t : List ℕ) (D : Demand2 w t) (v : ℕ) where
+module _ (w : List ℕ) (K : Buildable w) (v : ℕ) where
+  abbrev t : List ℕ
+  t = boundedSheet w
+
+  abbrev D : Copied w K (boundedSheet w)
+  D = copied w K
+
   abbrev HasCopy : Type 0
   HasCopy = (c : Copy) × List·Memᴰ c (sheetCopies w) × (c .block ≡ v)
 
@@ -84,11 +88,11 @@ module _ (w t : List ℕ) (D : Demand2 w t) (v : ℕ) where
       (Memᴰ·map (blockAt (heading t) t) (from-i (heading t .copies) 1 (suc (k .0)) (l .0) (omega (arith, D .copies))))
 
 module _ (w : List ℕ) (e : refused listingOrder w ≡ 0) (v : ℕ) where
-  abbrev K : Buildable w
-  K = listed w e
+  abbrev L : Buildable w
+  L = listed w e
 
-  abbrev t : List ℕ
-  t = boundedSheet w
+  abbrev u : List ℕ
+  u = boundedSheet w
 
   abbrev n : ℕ
   n = header w .blocks
@@ -96,13 +100,13 @@ module _ (w : List ℕ) (e : refused listingOrder w ≡ 0) (v : ℕ) where
   abbrev Enters : Type 0
   Enters = Kept (graph w) (header w .budget) v
 
-  member-kept : member v (copyBlocks t) ≡ true → Enters
+  member-kept : member v (copyBlocks u) ≡ true → Enters
   unfolding sheetCopies
-  member-kept m = used (setting w K) v .0 (block-copy w t (demand2 w K) v (member-e v (copyBlocks t) m))
+  member-kept m = used (setting w L) v .0 (block-copy w L v (member-e v (copyBlocks u) m))
 
-  kept-member : Enters → member v (copyBlocks t) ≡ true
+  kept-member : Enters → member v (copyBlocks u) ≡ true
   unfolding sheetCopies
-  kept-member k = member-i (copy-block w t (demand2 w K) v (used (setting w K) v .1 k))
+  kept-member k = member-i (copy-block w L v (used (setting w L) v .1 k))
 
   -- "each block that no kept path enters"
   pub unused-exactly : List·Memᴰ v (unusedBlocks (header w .blocks) (boundedSheet w))
@@ -110,13 +114,13 @@ module _ (w : List ℕ) (e : refused listingOrder w ≡ 0) (v : ℕ) where
   unfolding unusedBlocks
   unused-exactly = (there, back)
     where
-      there : List·Memᴰ v (unusedBlocks n t) → (1 ≤ v) × (v ≤ n) × (Enters → ⊥)
+      there : List·Memᴰ v (unusedBlocks n u) → (1 ≤ v) × (v ≤ n) × (Enters → ⊥)
       there m =
-          let p = keep-e (λ v. not (member v (copyBlocks t))) (from 1 n) m in
+          let p = keep-e (λ v. not (member v (copyBlocks u))) (from 1 n) m in
           let l = from-e n 1 v (p .0) in
           (l .0, omega (arith, l), λ k. not-both (kept-member k) (not-true _ (p .1)))
 
-      back : (1 ≤ v) × (v ≤ n) × (Enters → ⊥) → List·Memᴰ v (unusedBlocks n t)
+      back : (1 ≤ v) × (v ≤ n) × (Enters → ⊥) → List·Memᴰ v (unusedBlocks n u)
       back (p, q, none) =
-          keep-i (λ v. not (member v (copyBlocks t))) (from 1 n) (from-i n 1 v p (omega arith))
+          keep-i (λ v. not (member v (copyBlocks u))) (from 1 n) (from-i n 1 v p (omega arith))
           (ap not (else-false _ (λ m. none (member-kept m))))

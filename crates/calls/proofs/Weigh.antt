@@ -1,21 +1,24 @@
--- What an answer 0 of weighing says, and how it comes about.
+-- What an answer of weighing says, which are checked before 9, and how 0 comes about.
 -- Rests on base Orders, formats Accepted, specs Weigh.
-use mathlib.Core.Path.{_≡_, refl, ap}
-use mathlib.Core.Bool.{false}
-use mathlib.Core.List.{List}
+use mathlib.Core.Path.{_≡_, refl, sym, ap, _∙_}
+use mathlib.Core.Bool.{true, false}
+use mathlib.Core.List.{List, [], _∷_, _++_, Memᴰ·append-left}
 use mathlib.Core.Option.{Option, some, none}
 use Prim.Native.Nat.{ℕ, _≤_}
 use native.Mathlib.Omega.{arith}
+use native.Mathlib.Decide.{ℕ-discrete}
 use borrow.Author.Tests.{ltb-false, le-ltb}
 use lib.ListN.{length}
-use Rattle.base.specs.Lists.{all, isNone}
-use Rattle.base.specs.Checks.{refused, over}
-use Rattle.base.proofs.Orders.{Numbered, unrefused, passed, none-left, over-i, over-e}
+use Rattle.base.specs.Lists.{all, isNone, from, member}
+use Rattle.base.specs.Checks.{Order, refused, over, numbersOf, numbersBefore}
+use Rattle.base.proofs.Truth.{not-both}
+use Rattle.base.proofs.Lists.{member-i, member-e}
+use Rattle.base.proofs.Orders.{Numbered, unrefused, passed, none-left, refused-member, over-i, over-e, over-stops}
 use Rattle.theory.specs.Completions.{lowOf}
 use Rattle.formats.specs.GraphSheet.{header, sheetOrder, sheetRefusal}
 use Rattle.formats.proofs.Accepted.{graph-numbered}
 use Rattle.calls.specs.SheetGraph.{graph}
-use Rattle.calls.specs.Weigh.{Weighing, sheetArea, smallArea, nothingFits, weighOrder}
+use Rattle.calls.specs.Weigh.{Weighing, sheetArea, smallArea, nothingFits, weighOrder, beforeWeighing}
 
 -- no number of the order is 0
 pub weigh-numbered : Numbered weighOrder
@@ -26,6 +29,52 @@ pub some-low : (o : Option ℕ) → isNone o ≡ false → (a : ℕ) × (o ≡ s
 unfolding isNone
 some-low none e = absurd (let z : _≡_ {A = ℕ} 0 1 = cc in omega arith)
 some-low (some a) e = (a, refl)
+
+-- THE NUMBERS CHECKED BEFORE 9 are 1 to 8 and 21
+pub spared : (a : ℕ) → beforeWeighing a ≡ member a (from 1 8 ++ (21 ∷ []))
+unfolding over numbersOf numbersBefore from sheetOrder weighOrder beforeWeighing
+spared a = refl
+
+-- those of a sheet are
+pub sheet-early : (w : List ℕ) → (sheetRefusal w ≡ 0 → ⊥) → beforeWeighing (sheetRefusal w) ≡ true
+unfolding sheetRefusal sheetOrder numbersOf from
+sheet-early w n =
+    let m = member-e (sheetRefusal w) (from 1 8) (refused-member sheetOrder w n) in
+    spared (sheetRefusal w) ∙ member-i (Memᴰ·append-left (21 ∷ []) m)
+
+-- the part of the order before 9
+frontOrder : Order Weighing
+frontOrder = over (λ i. i .sheet) sheetOrder ++ ((21, smallArea) ∷ [])
+
+front-numbered : Numbered frontOrder
+unfolding all over sheetOrder frontOrder
+front-numbered = refl
+
+front-numbers : (a : ℕ) → member a (numbersOf frontOrder) ≡ beforeWeighing a
+unfolding over numbersOf numbersBefore sheetOrder weighOrder beforeWeighing frontOrder
+front-numbers a = refl
+
+-- an answer that is not one of them: the sheet passes, with area enough, whatever stands behind in the order
+module _ {J : Type 0} (f : J → Weighing) (qs : Order J) (j : J) where
+  behind-front : over f weighOrder ++ qs ≡ over f frontOrder ++ ((9, λ j. nothingFits (f j .sheet)) ∷ qs)
+  unfolding over sheetOrder weighOrder frontOrder
+  behind-front = refl
+
+  pub weighs-late : beforeWeighing (refused (over f weighOrder ++ qs) j) ≡ false
+      → (sheetRefusal (f j .sheet) ≡ 0) × (sheetArea (f j .sheet) ≤ length (f j .area))
+  unfolding sheetRefusal smallArea frontOrder
+  weighs-late late = go (ℕ-discrete (refused frontOrder (f j)) 0)
+    where
+      go : Dec (refused frontOrder (f j) ≡ 0) → (sheetRefusal (f j .sheet) ≡ 0) × (sheetArea (f j .sheet) ≤ length (f j .area))
+      go (yes e) =
+          let o = over-e (λ i. i .sheet) sheetOrder ((21, smallArea) ∷ []) (f j) graph-numbered e in
+          let a = unrefused 20 smallArea [] (f j) (o .1) in
+          (o .0, ltb-false (length (f j .area)) (sheetArea (f j .sheet)) (a .0))
+      go (no n) =
+          let q : refused (over f weighOrder ++ qs) j ≡ refused frontOrder (f j)
+          = ap (λ (o : Order J). refused o j) behind-front ∙ over-stops f frontOrder ((9, λ j. nothingFits (f j .sheet)) ∷ qs) j n in
+          absurd (not-both (sym (front-numbers (refused frontOrder (f j))) ∙ refused-member frontOrder (f j) n)
+          (sym (ap beforeWeighing q) ∙ late))
 
 -- a sheet that passes, with area enough, and what its budget leaves block 1
 pub record Passed (w area : List ℕ) : Type 0 where

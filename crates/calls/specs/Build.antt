@@ -2,10 +2,10 @@
 -- Rests on base Checks, formats Limits and BoundedSheet, SheetGraph, Weigh.
 use mathlib.Core.Bool.{Bool, _||_}
 use mathlib.Core.List.{List, [], _∷_, _++_}
-use Prim.Native.Nat.{ℕ, zero, suc}
+use Prim.Native.Nat.{ℕ}
 use lib.Dec.{ltb}
 use lib.ListN.{length, drop}
-use Rattle.base.specs.Checks.{Order, refused, over}
+use Rattle.base.specs.Checks.{Order, refused, over, lentAfter}
 use Rattle.formats.specs.Limits.{mostCopies, mostBoundedEdges}
 use Rattle.formats.specs.BoundedSheet.{Heading, heading}
 use Rattle.calls.specs.SheetGraph.{boundedSheet}
@@ -36,8 +36,7 @@ buildOrder =
 
 -- "An accepted build fills exactly its words"
 unfoldable pub outputAfter : List ℕ → ℕ → List ℕ → List ℕ
-outputAfter w zero output = boundedSheet w ++ drop (length (boundedSheet w)) output
-outputAfter w (suc n) output = output
+outputAfter w a output = lentAfter a output (boundedSheet w ++ drop (length (boundedSheet w)) output)
 
 -- THE CALL: the answer, and the content of all that was lent
 pub record Built : Type 0 where

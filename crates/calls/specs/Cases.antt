@@ -9,10 +9,10 @@ use Rattle.formats.specs.Rule11.{boundedRefusal}
 use Rattle.formats.specs.Refusals.{Case as FormatCase, outcome as formatOutcome}
 use Rattle.calls.specs.SheetGraph.{boundedSheet}
 use Rattle.calls.specs.Build.{Lent, build}
-use Rattle.calls.specs.Moves.{Move, monitoredMove, boundedMove}
+use Rattle.calls.specs.Moves.{Move, guardedMove, boundedMove}
 use Rattle.calls.specs.Program.{listing}
 use Rattle.calls.specs.Report.{report}
-use Rattle.calls.specs.Demand.{watch}
+use Rattle.calls.specs.Demand.{monitorStep}
 
 pub data Case : Type 0 where
   -- a call that goes by the formats alone
@@ -21,12 +21,12 @@ pub data Case : Type 0 where
   sheetOf : List ℕ → Case
   -- a build: the answer, the work area, the output row
   buildOf : Lent → Case
-  -- a monitored move: the answer, the walk, the work area
-  monitoredOf : List ℕ → Walk → Move → Case
+  -- a guarded move: the answer, the walk, the work area
+  guardedOf : List ℕ → Walk → Move → Case
   -- a bounded move: the answer, the walk
   moveOf : List ℕ → Walk → ℕ → Case
   -- the monitor over a list of choices: its answers, and its last state
-  watchOf : List ℕ → List ℕ → Case
+  monitorOf : List ℕ → List ℕ → Case
   -- the listing program's output on a file's bytes
   listingFor : List ℕ → Case
   -- the report program's output on a catalogue's bytes
@@ -48,8 +48,8 @@ unfoldable pub outcome : Case → List ℕ
 outcome (format c) = formatOutcome c
 outcome (sheetOf w) = sheetShown w (build (record { sheet = w; area = replicate 300 7; output = replicate 300 9 }) .answer)
 outcome (buildOf i) = let r = build i in r .answer ∷ (r .area ++ r .output)
-outcome (monitoredOf w s m) = let r = monitoredMove w s m in r .answer ∷ (walkNumbers (r .walk) ++ r .area)
+outcome (guardedOf w s m) = let r = guardedMove w s m in r .answer ∷ (walkNumbers (r .walk) ++ r .area)
 outcome (moveOf t s k) = let r = boundedMove t s k in r .answer ∷ walkNumbers (r .after)
-outcome (watchOf w ks) = answers (watch w) starting ks ++ walkNumbers (final (watch w) starting ks)
+outcome (monitorOf w ks) = answers (monitorStep w) starting ks ++ walkNumbers (final (monitorStep w) starting ks)
 outcome (listingFor bs) = listing bs
 outcome (reportFor bs) = report bs

@@ -1,43 +1,82 @@
 -- DEMAND 2: the bounded sheet has exactly the copies and branches of the published construction, in the listed order (document 01,
--- "Completions and copies" and "Bounded sheet"), sentence by sentence. Rests on theory Copies, formats, SheetGraph.
+-- "Completions and copies" and "Bounded sheet"), sentence by sentence. Rests on theory Completions and Copies, formats, SheetGraph, Build.
 use mathlib.Core.Path.{_≡_}
 use mathlib.Core.Logic.{_≢_, _↔_}
 use mathlib.Core.Bool.{true}
-use mathlib.Core.List.{List, [], _∷_, map, List·Memᴰ}
+use mathlib.Core.List.{List, [], _∷_, List·Memᴰ}
 use mathlib.Core.Option.{some}
-use Prim.Native.Nat.{ℕ, _<_}
-use lib.ListN.{length}
+use Prim.Native.Nat.{ℕ, _+_, _≤_, _<_}
+use lib.ListN.{length, take}
 use Rattle.base.specs.Lists.{chosen}
 use Rattle.base.specs.Copy.{Copy, copyOf, before}
-use Rattle.theory.specs.Completions.{lowOf}
-use Rattle.theory.specs.Copies.{targets, targetNumber, Reached}
+use Rattle.theory.specs.Completions.{Graph, Completion, IsLow, NoLow}
+use Rattle.theory.specs.Copies.{Reached}
 use Rattle.formats.specs.Limits.{wordLimit}
 use Rattle.formats.specs.GraphSheet.{header}
 use Rattle.formats.specs.BoundedSheet.{heading, boundedLength, copyAt, targetsAt}
 use Rattle.formats.specs.Rule11.{boundedRefusal}
-use Rattle.calls.specs.SheetGraph.{graph, sheetCopies}
+use Rattle.calls.specs.SheetGraph.{graph, boundedSheet}
+use Rattle.calls.specs.Build.{Lent, build}
 
--- w is the graph sheet, t the bounded sheet
-pub record Demand2 (w t : List ℕ) : Type 0 where
-  -- "The start copy has the largest completion cost of block 1 not above B."
-  pub start : ℕ
-  pub start-low : lowOf (graph w) 1 (header w .budget) ≡ some start
-  -- "The bounded graph is all copies reached so, and no other."
-  pub reached : (c : Copy) → List·Memᴰ c (sheetCopies w) ↔ ((j : ℕ) × Reached (graph w) (copyOf 1 start ∷ []) j c)
-  -- "From any block but the start the low falls."
-  pub falls : (c d : Copy) → List·Memᴰ c (sheetCopies w) → List·Memᴰ (some d) (targets (graph w) c) → c .block ≢ 1 → d .low < c .low
-  -- "Copies rise by block, then low, so copy 1 is the start and copy 2 the exit."
-  pub rising : (i j : ℕ) (c d : Copy) → i < j → chosen (sheetCopies w) i ≡ some c → chosen (sheetCopies w) j ≡ some d → before c d ≡ true
-  pub first : chosen (sheetCopies w) 1 ≡ some (copyOf 1 start)
-  pub second : chosen (sheetCopies w) 2 ≡ some (copyOf 2 0)
-  -- "Three words: C copies, F edges, B", and the records' words
-  pub copies : heading t .copies ≡ length (sheetCopies w)
-  pub budget : heading t .budget ≡ header w .budget
-  pub size : length t ≡ boundedLength (heading t)
-  -- the i-th record is the i-th copy's, and its chain has the copy's targets in order: the number of a copy, or 0 for the exception exit
-  pub record-is : (i : ℕ) (c : Copy) → chosen (sheetCopies w) i ≡ some c → copyAt (heading t) t i ≡ c
-  pub edges-are : (i : ℕ) (c : Copy) → chosen (sheetCopies w) i ≡ some c
-      → targetsAt (heading t) t i ≡ map (targetNumber (sheetCopies w)) (targets (graph w) c)
-  -- rule 11 lets the sheet pass, and each of its words fits 16 bits
-  pub rule : boundedRefusal t ≡ 0
-  pub words-fit : (x : ℕ) → List·Memᴰ x t → x < wordLimit
+-- w is the graph sheet, t the bounded sheet: its records are read, and nothing here is computed from the graph
+module _ (w t : List ℕ) where
+  abbrev G : Graph
+  G = graph w
+
+  abbrev B : ℕ
+  B = header w .budget
+
+  -- a copy's number, the copy of its record, its block's cost, and the targets of its chain, in order
+  abbrev pub IsPlace : ℕ → Type 0
+  IsPlace i = (1 ≤ i) × (i ≤ heading t .copies)
+
+  abbrev pub copy : ℕ → Copy
+  copy i = copyAt (heading t) t i
+
+  abbrev pub cost : ℕ → ℕ
+  cost i = graph w .cost (copy i .block)
+
+  abbrev pub edges : ℕ → List ℕ
+  edges i = targetsAt (heading t) t i
+
+  pub record Demand2 : Type 0 where
+    -- "A copy is a pair (block, low), where low is a completion cost of that block"
+    pub low : (i : ℕ) → IsPlace i → Completion G (copy i .block) (copy i .low)
+    -- "it serves every amount of cycles left whose largest completion cost is low": with such an amount r left, each edge leads where r would
+    pub serves : (i r v x y a : ℕ) → IsPlace i → IsLow G (copy i .block) r (copy i .low) → List·Memᴰ v (G .next (copy i .block))
+        → copy i .low ≡ cost i + x → r ≡ cost i + y → IsLow G v x a ↔ IsLow G v y a
+    -- "The start copy has the largest completion cost of block 1 not above B."
+    pub start : ℕ
+    pub start-low : IsLow G 1 B start
+    -- "For an edge from copy (u, a) to block v, take a − cost(u)", which is r: "with no completion cost of v at or below it, the edge is
+    -- diverted; else it goes to v's copy whose low is the largest such cost."
+    pub choices : (i : ℕ) → IsPlace i → length (edges i) ≡ length (G .next (copy i .block))
+    pub diverted : (i k v r : ℕ) → IsPlace i → chosen (G .next (copy i .block)) k ≡ some v → copy i .low ≡ cost i + r → NoLow G v r
+        → chosen (edges i) k ≡ some 0
+    pub goes : (i k v r a : ℕ) → IsPlace i → chosen (G .next (copy i .block)) k ≡ some v → copy i .low ≡ cost i + r → IsLow G v r a
+        → (n : ℕ) × IsPlace n × (chosen (edges i) k ≡ some n) × (copy n ≡ copyOf v a)
+    -- "The bounded graph is all copies reached so, and no other."
+    pub reached : (c : Copy) → ((i : ℕ) × IsPlace i × (copy i ≡ c)) ↔ ((j : ℕ) × Reached G (copyOf 1 start ∷ []) j c)
+    -- "From any block but the start the low falls."
+    pub falls : (i n : ℕ) → IsPlace i → List·Memᴰ n (edges i) → n ≢ 0 → copy i .block ≢ 1 → copy n .low < copy i .low
+    -- "The exit's only completion costs 0."
+    pub exit : (c : ℕ) → Completion G 2 c → c ≡ 0
+    -- "Three words: C copies, F edges, B", and the records' words
+    pub budget : heading t .budget ≡ B
+    pub size : length t ≡ boundedLength (heading t)
+    -- "Copies rise by block, then low, so copy 1 is the start and copy 2 the exit."
+    pub rising : (i j : ℕ) → 1 ≤ i → i < j → j ≤ heading t .copies → before (copy i) (copy j) ≡ true
+    pub two : 2 ≤ heading t .copies
+    pub first : copy 1 ≡ copyOf 1 start
+    pub second : copy 2 ≡ copyOf 2 0
+    -- rule 11 lets the sheet pass ("Edges are numbered copy by copy in chain order", and its other rules), and each word fits 16 bits
+    pub rule : boundedRefusal t ≡ 0
+    pub words-fit : (x : ℕ) → List·Memᴰ x t → x < wordLimit
+
+-- "exactly the words that build filled"
+abbrev pub builtWords : Lent → List ℕ
+builtWords i = take (length (boundedSheet (i .sheet))) (build i .output)
+
+-- THE DEMAND: of every build that answers 0, whatever it was lent
+abbrev pub KeepsDemand2 : Type 0
+KeepsDemand2 = (i : Lent) → build i .answer ≡ 0 → Demand2 (i .sheet) (builtWords i)

@@ -1,12 +1,13 @@
--- THE MOVES as calls: a monitored move on a graph sheet and a bounded move on a bounded sheet (document 01, "Walks" and the tables of refusals).
+-- THE MOVES as calls: a guarded move on a graph sheet and a bounded move on a bounded sheet (document 01, "Walks" and the tables of refusals).
 -- Rests on base Checks, theory Machines and Walks, formats, SheetGraph, Weigh.
 use mathlib.Core.Bool.{Bool, _||_, not, Bool·beq}
 use mathlib.Core.List.{List, [], _∷_, _++_}
-use Prim.Native.Nat.{ℕ, zero, suc}
+use Prim.Native.Nat.{ℕ}
 use lib.Dec.{ltb, eqb}
-use Rattle.base.specs.Checks.{Order, refused, over, outside}
+use lib.ListN.{length}
+use Rattle.base.specs.Checks.{Order, refused, over, lentAfter, outside}
 use Rattle.theory.specs.Machines.{Reply, reply}
-use Rattle.theory.specs.Walks.{Walk, isExit, mostMoves, monitor, boundedWalk}
+use Rattle.theory.specs.Walks.{Walk, isExit, hasEnded, mostMoves, monitor, boundedWalk}
 use Rattle.formats.specs.GraphSheet.{header}
 use Rattle.formats.specs.BoundedSheet.{heading}
 use Rattle.formats.specs.Rule11.{boundedOrder}
@@ -18,46 +19,75 @@ use Rattle.calls.specs.Weigh.{Weighing, weighOrder, areaAfter}
 unfoldable pub outOfShape : ℕ → ℕ → ℕ → Walk → Bool
 outOfShape n x m s = outside 1 n (s .place) || (not (Bool·beq (isExit (s .end)) (eqb (s .place) x)) || ltb m (s .count))
 
--- a refusal by number leaves the walk as it is; a machine's reply brings 32 and 31
-unfoldable pub unless : ℕ → Walk → Reply Walk → Reply Walk
-unless zero s r = r
-unless (suc n) s r = record { answer = suc n; after = s }
+-- what a move depends on behind the sheet's own checks: the places, the exit's, the largest count, the successors of the walk's place, the
+-- walk and the choice
+pub record Standing : Type 0 where
+  pub places : ℕ
+  pub last : ℕ
+  pub most : ℕ
+  pub targets : List ℕ
+  pub walk : Walk
+  pub choice : ℕ
 
--- A MONITORED MOVE (document 01: a watched move)
+-- "33, 32, 31", with which both orders end; 32: "the walk has ended", 31: "choice 0 or beyond the place's successors"
+unfoldable pub moveOrder : Order Standing
+moveOrder =
+    (33, λ i. outOfShape (i .places) (i .last) (i .most) (i .walk))
+    ∷ (32, λ i. hasEnded (i .walk .end))
+    ∷ (31, λ i. outside 1 (length (i .targets)) (i .choice))
+    ∷ []
+
+-- an answer with the walk after it: under a refusal the walk as it was, under 0 as the machine's move leaves it
+unfoldable pub moved : ℕ → Walk → Reply Walk → Reply Walk
+moved a s r = record { answer = a; after = lentAfter a s (r .after) }
+
+-- A GUARDED MOVE (document 01: a watched move)
 
 -- what it is given beside the sheet and the walk: a choice, and a work area
 pub record Move : Type 0 where
   pub choice : ℕ
   pub area : List ℕ
 
-pub record MonitoredInput : Type 0 where
+pub record GuardedInput : Type 0 where
   pub sheet : List ℕ
   pub area : List ℕ
   pub walk : Walk
+  pub choice : ℕ
 
-abbrev weighing : MonitoredInput → Weighing
+abbrev weighing : GuardedInput → Weighing
 weighing i = record { sheet = i .sheet; area = i .area }
 
--- "1 to 8, 21, 9, 33, 32, 31 for a watched move", of which weighing brings those up to 9 and the monitor's own reply the last two
-unfoldable pub monitoredOrder : Order MonitoredInput
-monitoredOrder =
-    over weighing weighOrder ++ ((33, λ i. outOfShape (header (i .sheet) .blocks) 2 (header (i .sheet) .budget) (i .walk)) ∷ [])
+abbrev pub onGraph : GuardedInput → Standing
+onGraph i =
+    let h = header (i .sheet) in
+    record {
+      places = h .blocks;
+      last = 2;
+      most = h .budget;
+      targets = graph (i .sheet) .next (i .walk .place);
+      walk = i .walk;
+      choice = i .choice;
+    }
+
+-- "1 to 8, 21, 9, 33, 32, 31 for a watched move"
+unfoldable pub guardedOrder : Order GuardedInput
+guardedOrder = over weighing weighOrder ++ over onGraph moveOrder
 
 -- the answer and the walk
-unfoldable pub monitoredReply : List ℕ → Walk → Move → Reply Walk
-monitoredReply w s i =
-    unless (refused monitoredOrder (record { sheet = w; area = i .area; walk = s })) s
+unfoldable pub guardedReply : List ℕ → Walk → Move → Reply Walk
+guardedReply w s i =
+    moved (refused guardedOrder (record { sheet = w; area = i .area; walk = s; choice = i .choice })) s
     (reply (monitor (graph w) (header w .budget)) s (i .choice))
 
 -- THE CALL: the answer, the walk, and the content of the work area
-pub record Monitored : Type 0 where
+pub record Guarded : Type 0 where
   pub answer : ℕ
   pub walk : Walk
   pub area : List ℕ
 
-unfoldable pub monitoredMove : List ℕ → Walk → Move → Monitored
-monitoredMove w s i =
-    let r = monitoredReply w s i in
+unfoldable pub guardedMove : List ℕ → Walk → Move → Guarded
+guardedMove w s i =
+    let r = guardedReply w s i in
     record { answer = r .answer; walk = r .after; area = areaAfter w (r .answer) (i .area) }
 
 -- A BOUNDED MOVE
@@ -65,18 +95,25 @@ monitoredMove w s i =
 pub record BoundedInput : Type 0 where
   pub sheet : List ℕ
   pub walk : Walk
+  pub choice : ℕ
 
--- "11, 33, 32, 31 for a bounded one", of which the bounded walk's own reply brings the last two
+abbrev pub onBounded : BoundedInput → Standing
+onBounded i =
+    let m = readBounded (i .sheet) in
+    record {
+      places = m .size;
+      last = m .last;
+      most = mostMoves (heading (i .sheet) .budget) (i .walk .end);
+      targets = m .next (i .walk .place);
+      walk = i .walk;
+      choice = i .choice;
+    }
+
+-- "11, 33, 32, 31 for a bounded one"
 unfoldable pub boundedMoveOrder : Order BoundedInput
-boundedMoveOrder =
-    over (λ i. i .sheet) boundedOrder
-    ++ ((
-      33,
-      λ i.
-          let m = readBounded (i .sheet) in
-          outOfShape (m .size) (m .last) (mostMoves (heading (i .sheet) .budget) (i .walk .end)) (i .walk),
-    ) ∷ [])
+boundedMoveOrder = over (λ i. i .sheet) boundedOrder ++ over onBounded moveOrder
 
 -- THE CALL: the answer and the walk
 unfoldable pub boundedMove : List ℕ → Walk → ℕ → Reply Walk
-boundedMove t s k = unless (refused boundedMoveOrder (record { sheet = t; walk = s })) s (reply (boundedWalk (readBounded t)) s k)
+boundedMove t s k =
+    moved (refused boundedMoveOrder (record { sheet = t; walk = s; choice = k })) s (reply (boundedWalk (readBounded t)) s k)

@@ -6,7 +6,7 @@ use lib.ListN.{replicate}
 use Rattle.theory.specs.Machines.{End, going, exit, diverted}
 use Rattle.theory.specs.Walks.{Walk}
 use Rattle.formats.specs.Samples.{loop, least, six, inBytes}
-use Rattle.calls.specs.Cases.{Case, buildOf, monitoredOf, moveOf, watchOf, listingFor, reportFor}
+use Rattle.calls.specs.Cases.{Case, buildOf, guardedOf, moveOf, monitorOf, listingFor, reportFor}
 
 abbrev walk : ℕ → ℕ → End → Walk
 walk p c e = record { place = p; count = c; end = e }
@@ -52,83 +52,83 @@ refusals =
       buildOf (record { sheet = 4 ∷ 2 ∷ 2 ∷ 0 ∷ 1 ∷ 0 ∷ 0 ∷ 1 ∷ 0 ∷ 2 ∷ 2 ∷ 2 ∷ 0 ∷ 2 ∷ 0 ∷ []; area = replicate 12 7; output = [] }),
       22 ∷ 1 ∷ 0 ∷ 0 ∷ 1 ∷ 0 ∷ 0 ∷ 0 ∷ 0 ∷ 0 ∷ 0 ∷ 0 ∷ 1 ∷ [],
     )
-    -- a monitored move: 8 before 21, 21 before 9, 9 before 33, 33 before 32, 32 before 31; the walk stays, the area only before 9
+    -- a guarded move: 8 before 21, 21 before 9, 9 before 33, 33 before 32, 32 before 31; the walk stays, the area only before 9
     ∷ (
-      monitoredOf (2 ∷ 1 ∷ 0 ∷ 0 ∷ 0 ∷ 0 ∷ 1 ∷ 2 ∷ 0 ∷ []) (walk 0 0 going) (record { choice = 1; area = 7 ∷ [] }),
+      guardedOf (2 ∷ 1 ∷ 0 ∷ 0 ∷ 0 ∷ 0 ∷ 1 ∷ 2 ∷ 0 ∷ []) (walk 0 0 going) (record { choice = 1; area = 7 ∷ [] }),
       8 ∷ 0 ∷ 0 ∷ 0 ∷ 7 ∷ [],
     )
     ∷ (
-      monitoredOf (3 ∷ 2 ∷ 1 ∷ 0 ∷ 1 ∷ 0 ∷ 0 ∷ 5 ∷ 2 ∷ 3 ∷ 0 ∷ 2 ∷ 0 ∷ []) (walk 0 0 going) (record { choice = 1; area = replicate 5 7 }),
+      guardedOf (3 ∷ 2 ∷ 1 ∷ 0 ∷ 1 ∷ 0 ∷ 0 ∷ 5 ∷ 2 ∷ 3 ∷ 0 ∷ 2 ∷ 0 ∷ []) (walk 0 0 going) (record { choice = 1; area = replicate 5 7 }),
       21 ∷ 0 ∷ 0 ∷ 0 ∷ 7 ∷ 7 ∷ 7 ∷ 7 ∷ 7 ∷ [],
     )
     ∷ (
-      monitoredOf (3 ∷ 2 ∷ 1 ∷ 0 ∷ 1 ∷ 0 ∷ 0 ∷ 5 ∷ 2 ∷ 3 ∷ 0 ∷ 2 ∷ 0 ∷ []) (walk 0 0 going) (record { choice = 1; area = replicate 6 7 }),
+      guardedOf (3 ∷ 2 ∷ 1 ∷ 0 ∷ 1 ∷ 0 ∷ 0 ∷ 5 ∷ 2 ∷ 3 ∷ 0 ∷ 2 ∷ 0 ∷ []) (walk 0 0 going) (record { choice = 1; area = replicate 6 7 }),
       9 ∷ 0 ∷ 0 ∷ 0 ∷ 0 ∷ 0 ∷ 1 ∷ 0 ∷ 0 ∷ 0 ∷ [],
     )
     ∷ (
-      monitoredOf (loop 6) (walk 0 0 diverted) (record { choice = 0; area = replicate 21 7 }),
+      guardedOf (loop 6) (walk 0 0 diverted) (record { choice = 0; area = replicate 21 7 }),
       33 ∷ 0 ∷ 0 ∷ 2 ∷ 0 ∷ 0 ∷ 0 ∷ 1 ∷ 0 ∷ 0 ∷ 1 ∷ 1 ∷ 0 ∷ 0 ∷ 0 ∷ 0 ∷ 0 ∷ 0 ∷ 0 ∷ 0 ∷ 0 ∷ 1 ∷ 0 ∷ 0 ∷ 1 ∷ [],
     )
     ∷ (
-      monitoredOf (loop 6) (walk 1 0 diverted) (record { choice = 0; area = replicate 21 7 }),
+      guardedOf (loop 6) (walk 1 0 diverted) (record { choice = 0; area = replicate 21 7 }),
       32 ∷ 1 ∷ 0 ∷ 2 ∷ 0 ∷ 0 ∷ 0 ∷ 1 ∷ 0 ∷ 0 ∷ 1 ∷ 1 ∷ 0 ∷ 0 ∷ 0 ∷ 0 ∷ 0 ∷ 0 ∷ 0 ∷ 0 ∷ 0 ∷ 1 ∷ 0 ∷ 0 ∷ 1 ∷ [],
     )
     ∷ (
-      monitoredOf (loop 6) (walk 2 6 exit) (record { choice = 1; area = replicate 21 7 }),
+      guardedOf (loop 6) (walk 2 6 exit) (record { choice = 1; area = replicate 21 7 }),
       32 ∷ 2 ∷ 6 ∷ 1 ∷ 0 ∷ 0 ∷ 0 ∷ 1 ∷ 0 ∷ 0 ∷ 1 ∷ 1 ∷ 0 ∷ 0 ∷ 0 ∷ 0 ∷ 0 ∷ 0 ∷ 0 ∷ 0 ∷ 0 ∷ 1 ∷ 0 ∷ 0 ∷ 1 ∷ [],
     )
     ∷ (
-      monitoredOf (loop 6) (walk 1 0 going) (record { choice = 0; area = replicate 21 7 }),
+      guardedOf (loop 6) (walk 1 0 going) (record { choice = 0; area = replicate 21 7 }),
       31 ∷ 1 ∷ 0 ∷ 0 ∷ 0 ∷ 0 ∷ 0 ∷ 1 ∷ 0 ∷ 0 ∷ 1 ∷ 1 ∷ 0 ∷ 0 ∷ 0 ∷ 0 ∷ 0 ∷ 0 ∷ 0 ∷ 0 ∷ 0 ∷ 1 ∷ 0 ∷ 0 ∷ 1 ∷ [],
     )
     ∷ (
-      monitoredOf (loop 6) (walk 1 0 going) (record { choice = 2; area = replicate 21 7 }),
+      guardedOf (loop 6) (walk 1 0 going) (record { choice = 2; area = replicate 21 7 }),
       31 ∷ 1 ∷ 0 ∷ 0 ∷ 0 ∷ 0 ∷ 0 ∷ 1 ∷ 0 ∷ 0 ∷ 1 ∷ 1 ∷ 0 ∷ 0 ∷ 0 ∷ 0 ∷ 0 ∷ 0 ∷ 0 ∷ 0 ∷ 0 ∷ 1 ∷ 0 ∷ 0 ∷ 1 ∷ [],
     )
     -- 33: the place outside the sheet, end exit and place 2 not together either way, the count above B of a going and of an ended walk
     ∷ (
-      monitoredOf (loop 6) (walk 4 0 going) (record { choice = 1; area = replicate 21 7 }),
+      guardedOf (loop 6) (walk 4 0 going) (record { choice = 1; area = replicate 21 7 }),
       33 ∷ 4 ∷ 0 ∷ 0 ∷ 0 ∷ 0 ∷ 0 ∷ 1 ∷ 0 ∷ 0 ∷ 1 ∷ 1 ∷ 0 ∷ 0 ∷ 0 ∷ 0 ∷ 0 ∷ 0 ∷ 0 ∷ 0 ∷ 0 ∷ 1 ∷ 0 ∷ 0 ∷ 1 ∷ [],
     )
     ∷ (
-      monitoredOf (loop 6) (walk 3 0 exit) (record { choice = 1; area = replicate 21 7 }),
+      guardedOf (loop 6) (walk 3 0 exit) (record { choice = 1; area = replicate 21 7 }),
       33 ∷ 3 ∷ 0 ∷ 1 ∷ 0 ∷ 0 ∷ 0 ∷ 1 ∷ 0 ∷ 0 ∷ 1 ∷ 1 ∷ 0 ∷ 0 ∷ 0 ∷ 0 ∷ 0 ∷ 0 ∷ 0 ∷ 0 ∷ 0 ∷ 1 ∷ 0 ∷ 0 ∷ 1 ∷ [],
     )
     ∷ (
-      monitoredOf (loop 6) (walk 2 0 going) (record { choice = 1; area = replicate 21 7 }),
+      guardedOf (loop 6) (walk 2 0 going) (record { choice = 1; area = replicate 21 7 }),
       33 ∷ 2 ∷ 0 ∷ 0 ∷ 0 ∷ 0 ∷ 0 ∷ 1 ∷ 0 ∷ 0 ∷ 1 ∷ 1 ∷ 0 ∷ 0 ∷ 0 ∷ 0 ∷ 0 ∷ 0 ∷ 0 ∷ 0 ∷ 0 ∷ 1 ∷ 0 ∷ 0 ∷ 1 ∷ [],
     )
     ∷ (
-      monitoredOf (loop 6) (walk 2 0 diverted) (record { choice = 1; area = replicate 21 7 }),
+      guardedOf (loop 6) (walk 2 0 diverted) (record { choice = 1; area = replicate 21 7 }),
       33 ∷ 2 ∷ 0 ∷ 2 ∷ 0 ∷ 0 ∷ 0 ∷ 1 ∷ 0 ∷ 0 ∷ 1 ∷ 1 ∷ 0 ∷ 0 ∷ 0 ∷ 0 ∷ 0 ∷ 0 ∷ 0 ∷ 0 ∷ 0 ∷ 1 ∷ 0 ∷ 0 ∷ 1 ∷ [],
     )
     ∷ (
-      monitoredOf (loop 6) (walk 3 7 going) (record { choice = 1; area = replicate 21 7 }),
+      guardedOf (loop 6) (walk 3 7 going) (record { choice = 1; area = replicate 21 7 }),
       33 ∷ 3 ∷ 7 ∷ 0 ∷ 0 ∷ 0 ∷ 0 ∷ 1 ∷ 0 ∷ 0 ∷ 1 ∷ 1 ∷ 0 ∷ 0 ∷ 0 ∷ 0 ∷ 0 ∷ 0 ∷ 0 ∷ 0 ∷ 0 ∷ 1 ∷ 0 ∷ 0 ∷ 1 ∷ [],
     )
     ∷ (
-      monitoredOf (loop 6) (walk 3 7 diverted) (record { choice = 1; area = replicate 21 7 }),
+      guardedOf (loop 6) (walk 3 7 diverted) (record { choice = 1; area = replicate 21 7 }),
       33 ∷ 3 ∷ 7 ∷ 2 ∷ 0 ∷ 0 ∷ 0 ∷ 1 ∷ 0 ∷ 0 ∷ 1 ∷ 1 ∷ 0 ∷ 0 ∷ 0 ∷ 0 ∷ 0 ∷ 0 ∷ 0 ∷ 0 ∷ 0 ∷ 1 ∷ 0 ∷ 0 ∷ 1 ∷ [],
     )
     ∷ (
-      monitoredOf (loop 6) (walk 3 6 diverted) (record { choice = 1; area = replicate 21 7 }),
+      guardedOf (loop 6) (walk 3 6 diverted) (record { choice = 1; area = replicate 21 7 }),
       32 ∷ 3 ∷ 6 ∷ 2 ∷ 0 ∷ 0 ∷ 0 ∷ 1 ∷ 0 ∷ 0 ∷ 1 ∷ 1 ∷ 0 ∷ 0 ∷ 0 ∷ 0 ∷ 0 ∷ 0 ∷ 0 ∷ 0 ∷ 0 ∷ 1 ∷ 0 ∷ 0 ∷ 1 ∷ [],
     )
     -- 0: a block is entered, the exit is entered, the walk is diverted and keeps place and count; a path of cost exactly B is kept
     ∷ (
-      monitoredOf (loop 6) (walk 1 0 going) (record { choice = 1; area = replicate 21 7 }),
+      guardedOf (loop 6) (walk 1 0 going) (record { choice = 1; area = replicate 21 7 }),
       0 ∷ 3 ∷ 3 ∷ 0 ∷ 0 ∷ 0 ∷ 0 ∷ 1 ∷ 0 ∷ 0 ∷ 1 ∷ 1 ∷ 0 ∷ 0 ∷ 0 ∷ 0 ∷ 0 ∷ 0 ∷ 0 ∷ 0 ∷ 0 ∷ 1 ∷ 0 ∷ 0 ∷ 1 ∷ [],
     )
     ∷ (
-      monitoredOf (loop 6) (walk 3 3 going) (record { choice = 1; area = replicate 21 7 }),
+      guardedOf (loop 6) (walk 3 3 going) (record { choice = 1; area = replicate 21 7 }),
       0 ∷ 3 ∷ 6 ∷ 0 ∷ 0 ∷ 0 ∷ 0 ∷ 1 ∷ 0 ∷ 0 ∷ 1 ∷ 1 ∷ 0 ∷ 0 ∷ 0 ∷ 0 ∷ 0 ∷ 0 ∷ 0 ∷ 0 ∷ 0 ∷ 1 ∷ 0 ∷ 0 ∷ 1 ∷ [],
     )
     ∷ (
-      monitoredOf (loop 6) (walk 3 6 going) (record { choice = 2; area = replicate 21 7 }),
+      guardedOf (loop 6) (walk 3 6 going) (record { choice = 2; area = replicate 21 7 }),
       0 ∷ 2 ∷ 6 ∷ 1 ∷ 0 ∷ 0 ∷ 0 ∷ 1 ∷ 0 ∷ 0 ∷ 1 ∷ 1 ∷ 0 ∷ 0 ∷ 0 ∷ 0 ∷ 0 ∷ 0 ∷ 0 ∷ 0 ∷ 0 ∷ 1 ∷ 0 ∷ 0 ∷ 1 ∷ [],
     )
     ∷ (
-      monitoredOf (loop 6) (walk 3 6 going) (record { choice = 1; area = replicate 21 7 }),
+      guardedOf (loop 6) (walk 3 6 going) (record { choice = 1; area = replicate 21 7 }),
       0 ∷ 3 ∷ 6 ∷ 2 ∷ 0 ∷ 0 ∷ 0 ∷ 1 ∷ 0 ∷ 0 ∷ 1 ∷ 1 ∷ 0 ∷ 0 ∷ 0 ∷ 0 ∷ 0 ∷ 0 ∷ 0 ∷ 0 ∷ 0 ∷ 1 ∷ 0 ∷ 0 ∷ 1 ∷ [],
     )
     -- a bounded move: 11 before 33, 33 before 32, 32 before 31; the walk stays
@@ -152,13 +152,13 @@ refusals =
     ∷ (moveOf six (walk 3 2 going) 1, 0 ∷ 3 ∷ 3 ∷ 2 ∷ [])
     ∷ (moveOf six (walk 1 6 going) 1, 0 ∷ 4 ∷ 7 ∷ 0 ∷ [])
     -- the monitor over lists of choices: empty, 0, too large, after the end, a path of cost exactly B, one choice more
-    ∷ (watchOf (loop 6) [], 1 ∷ 0 ∷ 0 ∷ [])
-    ∷ (watchOf (loop 6) (0 ∷ []), 31 ∷ 1 ∷ 0 ∷ 0 ∷ [])
-    ∷ (watchOf (loop 6) (2 ∷ []), 31 ∷ 1 ∷ 0 ∷ 0 ∷ [])
-    ∷ (watchOf (loop 6) (1 ∷ 3 ∷ []), 0 ∷ 31 ∷ 3 ∷ 3 ∷ 0 ∷ [])
-    ∷ (watchOf (loop 6) (1 ∷ 2 ∷ 1 ∷ 0 ∷ []), 0 ∷ 0 ∷ 32 ∷ 32 ∷ 2 ∷ 3 ∷ 1 ∷ [])
-    ∷ (watchOf (loop 6) (1 ∷ 1 ∷ 2 ∷ []), 0 ∷ 0 ∷ 0 ∷ 2 ∷ 6 ∷ 1 ∷ [])
-    ∷ (watchOf (loop 6) (1 ∷ 1 ∷ 1 ∷ 2 ∷ []), 0 ∷ 0 ∷ 0 ∷ 32 ∷ 3 ∷ 6 ∷ 2 ∷ [])
+    ∷ (monitorOf (loop 6) [], 1 ∷ 0 ∷ 0 ∷ [])
+    ∷ (monitorOf (loop 6) (0 ∷ []), 31 ∷ 1 ∷ 0 ∷ 0 ∷ [])
+    ∷ (monitorOf (loop 6) (2 ∷ []), 31 ∷ 1 ∷ 0 ∷ 0 ∷ [])
+    ∷ (monitorOf (loop 6) (1 ∷ 3 ∷ []), 0 ∷ 31 ∷ 3 ∷ 3 ∷ 0 ∷ [])
+    ∷ (monitorOf (loop 6) (1 ∷ 2 ∷ 1 ∷ 0 ∷ []), 0 ∷ 0 ∷ 32 ∷ 32 ∷ 2 ∷ 3 ∷ 1 ∷ [])
+    ∷ (monitorOf (loop 6) (1 ∷ 1 ∷ 2 ∷ []), 0 ∷ 0 ∷ 0 ∷ 2 ∷ 6 ∷ 1 ∷ [])
+    ∷ (monitorOf (loop 6) (1 ∷ 1 ∷ 1 ∷ 2 ∷ []), 0 ∷ 0 ∷ 0 ∷ 32 ∷ 3 ∷ 6 ∷ 2 ∷ [])
     -- the listing program: no byte, an odd byte more or less, an odd number of bytes of a long file, one word too few
     ∷ (listingFor [], 114 ∷ 101 ∷ 102 ∷ 117 ∷ 115 ∷ 101 ∷ 100 ∷ 32 ∷ 49 ∷ 10 ∷ [])
     ∷ (listingFor (0 ∷ inBytes least), 114 ∷ 101 ∷ 102 ∷ 117 ∷ 115 ∷ 101 ∷ 100 ∷ 32 ∷ 49 ∷ 10 ∷ [])

@@ -1,12 +1,12 @@
--- WEIGHING as a call, the front of a build and of a monitored move: the answers 1 to 8, 21 and 9, and the work area after any answer.
+-- WEIGHING as a call, the front of a build and of a guarded move: the answers 1 to 8, 21 and 9, and the work area after any answer.
 -- Rests on base Checks, theory Completions, formats GraphSheet, SheetGraph, Area.
-use mathlib.Core.Bool.{Bool, true, false, _||_, not}
+use mathlib.Core.Bool.{Bool, true, false}
 use mathlib.Core.List.{List, [], _∷_, _++_}
 use Prim.Native.Nat.{ℕ}
-use lib.Dec.{ltb, eqb}
+use lib.Dec.{ltb}
 use lib.ListN.{length}
-use Rattle.base.specs.Lists.{isNone}
-use Rattle.base.specs.Checks.{Order, refused, over, outside}
+use Rattle.base.specs.Lists.{isNone, member}
+use Rattle.base.specs.Checks.{Order, refused, over, numbersOf, numbersBefore}
 use Rattle.theory.specs.Completions.{lowOf}
 use Rattle.formats.specs.GraphSheet.{header, sheetOrder}
 use Rattle.calls.specs.SheetGraph.{graph}
@@ -35,9 +35,9 @@ weighOrder = over (λ i. i .sheet) sheetOrder ++ ((21, smallArea) ∷ (9, λ i. 
 
 -- "each number checked before 9"
 unfoldable pub beforeWeighing : ℕ → Bool
-beforeWeighing a = not (outside 1 8 a) || eqb a 21
+beforeWeighing a = member a (numbersBefore 9 (numbersOf weighOrder))
 
--- the work area after a building or monitored call that answered a
+-- the work area after a building or guarded call that answered a
 unfoldable pub areaAfter : List ℕ → ℕ → List ℕ → List ℕ
 areaAfter w a area =
     elim (beforeWeighing a) [ true ↦ area | false ↦ filled (graph w) (header w .blocks) (header w .budget) area ]

@@ -15,7 +15,7 @@ use Rattle.base.proofs.Copies.{isIn-mem, mem-isIn}
 use Rattle.theory.specs.Completions.{lowOf}
 use Rattle.theory.specs.Copies.{Reached, start, along}
 use Rattle.theory.specs.Setting.{starts}
-use Rattle.theory.proofs.Reach.{target-mem, sound, in-reached, entry-of}
+use Rattle.theory.proofs.Reach.{target-mem, edge-target, sound, in-reached, entry-of}
 use Rattle.formats.specs.Limits.{mostBudget}
 use Rattle.formats.specs.GraphSheet.{header, sheetRefusal}
 use Rattle.calls.specs.SheetGraph.{graph}
@@ -48,9 +48,9 @@ module _ {w : List ℕ} {b : ℕ} {lows m m′ : List ℕ} (R : Ready w b lows m
       let k : E .0 .budget ≡ b = List·Memᴰ·eq-of-singleton (E .0 .named) in
       let low : lowOf (graph w) 1 b ≡ some (E .0 .low) = ap (lowOf (graph w) 1) (sym k) ∙ E .0 .fits in
       subst (λ (d : Copy). marked b m′ (d .block) (d .low) ≡ true) (E .1) (s .is-met (E .0 .low) low)
-  reached (along {c = c} {d = d} r i) =
+  reached (along {c = c} {d = d} r i e h) =
       let k = sound (setting R) r in
-      let t = target-mem (graph w) c d i in
+      let t = target-mem (graph w) c d (edge-target (graph w) (setting R .laws) c d i e h) in
       ⊎-elim (λ h. absurd (not-both h (unmarked m b (c .block) (c .low) clear))) (λ h. h .each-met (d .block) (t .0) .is-met (d .low) (t .1))
       (g .closed (c .block) (c .low) (k .place .0) (k .small) (reached r))
 

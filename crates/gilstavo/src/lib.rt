@@ -5,7 +5,7 @@ ghost use lib.ListN.{length, getD};
 ghost use Rattle.formats.specs.GraphSheet.{sheetRefusal, countSuccessors};
 ghost use Rattle.formats.specs.Rule11.{boundedRefusal, handOut};
 ghost use Rattle.theory.specs.Walks.{starting};
-ghost use Rattle.calls.specs.Moves.{monitoredMove, boundedMove};
+ghost use Rattle.calls.specs.Moves.{guardedMove, boundedMove};
 ghost use Rattle.calls.specs.Weigh.{weighed};
 ghost use Rattle.build.specs.Within.{built};
 ghost use Rattle.reader.specs.Placed.{Placed};
@@ -17,7 +17,7 @@ use build::build;
 use graph_check::check_graph;
 use graph_check::count_successors;
 use moves::bounded_move;
-use moves::monitored_move;
+use moves::guarded_move;
 use reader::edge_words_place;
 use walk::End;
 use walk::Walk;
@@ -153,23 +153,23 @@ pub extern "C" fn gilstavo_start(walk: &mut [u16; 3])
     put_walk(walk, w);
 }
 
-// 1 to 8, 21, 9, 33, 32, 31, else 0; a monitored move of a walk that is changed in place.
+// 1 to 8, 21, 9, 33, 32, 31, else 0; a guarded move of a walk that is changed in place.
 #[no_mangle]
-pub extern "C" fn gilstavo_monitored_move(
+pub extern "C" fn gilstavo_guarded_move(
     sheet: &[u16],
     area: &mut [u8],
     walk: &mut [u16; 3],
     choice: u16,
 ) -> u16
     ensures { λ r. ⌜ r
-        ≡ monitoredMove (now (sheet .entry)) (walkIn (now (walk .entry))) (record { choice = choice; area = now (area .entry) }) .answer ⌝ }
+        ≡ guardedMove (now (sheet .entry)) (walkIn (now (walk .entry))) (record { choice = choice; area = now (area .entry) }) .answer ⌝ }
     ensures { λ r. ⌜ now (walk .exit) ≡ lentAfter r (now (walk .entry))
-        (walkWords (monitoredMove (now (sheet .entry)) (walkIn (now (walk .entry))) (record { choice = choice; area = now (area .entry) }) .walk)) ⌝ }
+        (walkWords (guardedMove (now (sheet .entry)) (walkIn (now (walk .entry))) (record { choice = choice; area = now (area .entry) }) .walk)) ⌝ }
     ensures { λ _. ⌜ now (area .exit)
-        ≡ monitoredMove (now (sheet .entry)) (walkIn (now (walk .entry))) (record { choice = choice; area = now (area .entry) }) .area ⌝ }
+        ≡ guardedMove (now (sheet .entry)) (walkIn (now (walk .entry))) (record { choice = choice; area = now (area .entry) }) .area ⌝ }
 {
     let w = walk_of(walk);
-    let watched = monitored_move(sheet, area, w, choice);
+    let watched = guarded_move(sheet, area, w, choice);
     if watched.answer != 0 {
         return watched.answer;
     }

@@ -9,7 +9,7 @@ use native.Mathlib.Decide.{ℕ-discrete}
 use borrow.Author.Tests.{ltb-false, le-ltb}
 use lib.Dec.{ltb}
 use lib.ListN.{length, take, drop, length-append}
-use Rattle.base.specs.Checks.{Order, refused}
+use Rattle.base.specs.Checks.{Order, refused, lentAfter}
 use Rattle.base.proofs.Truth.{or-false}
 use Rattle.base.proofs.Orders.{pick, tested, none-left, append-stops, append-passes, over-stops, over-passes}
 use Rattle.formats.specs.Limits.{mostCopies, mostBoundedEdges}
@@ -117,7 +117,7 @@ module _ (w area out : List ℕ) where
 
     -- it begins with the sheet
     size-is : boundedLength (heading filled) ≡ length (boundedSheet w)
-    unfolding heading boundedSheet sheetWords outputAfter
+    unfolding lentAfter heading boundedSheet sheetWords outputAfter
     size-is = ap (λ (o : List ℕ). boundedLength (heading o)) filled-is ∙ sym (sheet-is w)
 
     pub front-is : frontSheet filled ≡ boundedSheet w
@@ -125,7 +125,7 @@ module _ (w area out : List ℕ) where
         ap (λ (n : ℕ). take n filled) size-is ∙ ap (take (length (boundedSheet w))) filled-is ∙ output-words w out
 
     pub front-fits : boundedLength (heading filled) ≤ length filled
-    unfolding outputAfter
+    unfolding lentAfter outputAfter
     front-fits = omega (arith, size-is, ap length filled-is, length-append (boundedSheet w) (drop (length (boundedSheet w)) out))
 
     -- and the sheet keeps rule 11

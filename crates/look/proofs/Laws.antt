@@ -4,8 +4,8 @@ use mathlib.Core.Path.{_≡_, refl, sym, ap, _∙_}
 use mathlib.Core.List.{List}
 use Prim.Native.Nat.{ℕ, zero, suc, _≤_}
 use native.Mathlib.Omega.{arith}
-use Rattle.theory.specs.Completions.{Completion, lowOf}
-use Rattle.theory.proofs.Completions.{IsLow, low-some, low-none}
+use Rattle.theory.specs.Completions.{IsLow, NoLow, lowOf}
+use Rattle.theory.proofs.Completions.{low-some, low-none}
 use Rattle.formats.specs.GraphSheet.{sheetRefusal}
 use Rattle.formats.proofs.Accepted.{accepted}
 use Rattle.calls.specs.SheetGraph.{graph}
@@ -14,18 +14,18 @@ use Rattle.tables.specs.Tables.{optionOf}
 
 module _ (w : List ℕ) (ok : sheetRefusal w ≡ 0) (v r x : ℕ) (e : optionOf x ≡ lowOf (graph w) v r) where
   -- 0: no completion costs at most r
-  pub nothing-below : x ≡ 0 → (c : ℕ) → Completion (graph w) v c → c ≤ r → ⊥
+  pub nothing-below : x ≡ 0 → NoLow (graph w) v r
   unfolding optionOf
   nothing-below z = low-none (graph w) (well-formed w (accepted w ok)) v r (sym e ∙ ap optionOf z)
 
   -- else one more than the largest completion cost at or below r
-  pub is-low : (a : ℕ) → x ≡ suc a → IsLow (graph w) (well-formed w (accepted w ok)) v r a
+  pub is-low : (a : ℕ) → x ≡ suc a → IsLow (graph w) v r a
   unfolding optionOf
   is-low a z = low-some (graph w) (well-formed w (accepted w ok)) v r a (sym e ∙ ap optionOf z)
 
   pub low-bound : x ≤ suc r
   low-bound = go x is-low
     where
-      go : (y : ℕ) → ((a : ℕ) → y ≡ suc a → IsLow (graph w) (well-formed w (accepted w ok)) v r a) → y ≤ suc r
+      go : (y : ℕ) → ((a : ℕ) → y ≡ suc a → IsLow (graph w) v r a) → y ≤ suc r
       go zero h = omega arith
       go (suc a) h = omega (arith, h a refl .below)

@@ -1,4 +1,4 @@
-// Public calls: a monitored move on a graph sheet and a bounded move on a bounded sheet, with the walk by value.
+// Public calls: a guarded move on a graph sheet and a bounded move on a bounded sheet, with the walk by value.
 // Rests on weigh_sheet, look, bounded_check, walk; the promises are calls Moves.
 ghost use mathlib.Core.Path.{_≡_};
 ghost use Prim.Native.Nat.{suc, _+_, _*_, _≤_};
@@ -12,7 +12,7 @@ ghost use Rattle.formats.specs.BoundedSheet.{heading, targetsAt};
 ghost use Rattle.formats.specs.Rule11.{boundedRefusal};
 ghost use Rattle.calls.specs.SheetGraph.{graph, readBounded};
 ghost use Rattle.calls.specs.Area.{Table};
-ghost use Rattle.calls.specs.Moves.{monitoredMove, boundedMove};
+ghost use Rattle.calls.specs.Moves.{guardedMove, boundedMove};
 ghost use Rattle.tables.specs.Tables.{optionOf};
 ghost use Rattle.walk.specs.Walks.{endOf, walkOf, replyOf};
 ghost use Rattle.moves.specs.Edges.{targetsFrom, Inside};
@@ -171,14 +171,14 @@ fn bounded_reply(t: &[u16], w: Walk, choice: usize) -> Moved
     }
 }
 
-// A monitored move: the sheet is weighed into the work area, the walk is checked, and the monitor replies.
-pub fn monitored_move(s: &[u16], area: &mut [u8], w: Walk, choice: u16) -> Moved
+// A guarded move: the sheet is weighed into the work area, the walk is checked, and the monitor replies.
+pub fn guarded_move(s: &[u16], area: &mut [u8], w: Walk, choice: u16) -> Moved
     ensures { λ r. ⌜ r .answer
-        ≡ monitoredMove (now (s .entry)) (walkOf w) (record { choice = choice; area = now (area .entry) }) .answer ⌝ }
+        ≡ guardedMove (now (s .entry)) (walkOf w) (record { choice = choice; area = now (area .entry) }) .answer ⌝ }
     ensures { λ r. ⌜ walkOf (r .walk)
-        ≡ monitoredMove (now (s .entry)) (walkOf w) (record { choice = choice; area = now (area .entry) }) .walk ⌝ }
+        ≡ guardedMove (now (s .entry)) (walkOf w) (record { choice = choice; area = now (area .entry) }) .walk ⌝ }
     ensures { λ _. ⌜ now (area .exit)
-        ≡ monitoredMove (now (s .entry)) (walkOf w) (record { choice = choice; area = now (area .entry) }) .area ⌝ }
+        ≡ guardedMove (now (s .entry)) (walkOf w) (record { choice = choice; area = now (area .entry) }) .area ⌝ }
 {
     let a = weigh_sheet(s, area);
     if a != 0 {

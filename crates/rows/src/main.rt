@@ -1,9 +1,9 @@
-// Gives lists of choices to three machines and prints their rows: the watch, monitored moves on the graph sheet, bounded moves on the sheet
+// Gives lists of choices to three machines and prints their rows: the watch, guarded moves on the graph sheet, bounded moves on the sheet
 // that the build filled. Rests on build, moves, walk, weigh_sheet. The watch here is plain code of its own; nothing of it is lent to the others.
 use build::build;
 use libc::STDOUT_FILENO;
 use moves::bounded_move;
-use moves::monitored_move;
+use moves::guarded_move;
 use walk::End;
 use walk::Moved;
 use walk::Walk;
@@ -225,7 +225,7 @@ fn print_end(block: usize, w: Walk) {
 // The three machines after some choices, with their answers.
 struct Machines {
     watch: Walk,
-    monitored: Walk,
+    guarded: Walk,
     bounded: Walk,
     watched: [u16; 8],
     monitors: [u16; 8],
@@ -235,7 +235,7 @@ struct Machines {
 fn begin() -> Machines {
     Machines {
         watch: Walk::start(),
-        monitored: Walk::start(),
+        guarded: Walk::start(),
         bounded: Walk::start(),
         watched: [0u16; 8],
         monitors: [0u16; 8],
@@ -259,7 +259,7 @@ fn give(
         return m;
     }
     let a = watch(&SHEET, table, m.watch, choice);
-    let b = monitored_move(&SHEET, area, m.monitored, choice);
+    let b = guarded_move(&SHEET, area, m.guarded, choice);
     let c = bounded_move(sheet, m.bounded, choice);
     let mut next = m;
     next.watched[j] = a.answer;
@@ -273,7 +273,7 @@ fn give(
     let z = c.walk;
     Machines {
         watch: x,
-        monitored: y,
+        guarded: y,
         bounded: z,
         watched: watched,
         monitors: monitors,
@@ -301,9 +301,9 @@ fn print_list(table: &[u8], area: &mut [u8], sheet: &[u16], choices: [u16; 8], n
     let w = m.watch;
     print_row(watched, n);
     print_end(wide(w.place), w);
-    io::write_all(STDOUT_FILENO, b"monitored");
+    io::write_all(STDOUT_FILENO, b"guarded");
     let monitors = m.monitors;
-    let v = m.monitored;
+    let v = m.guarded;
     print_row(monitors, n);
     print_end(wide(v.place), v);
     io::write_all(STDOUT_FILENO, b"bounded");

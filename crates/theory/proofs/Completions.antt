@@ -1,9 +1,9 @@
 -- The test of a completion cost is exactly the completions, the look-up gives the largest, and the key lemma of the construction.
 -- Rests on base Truth, specs Completions and Setting.
 use mathlib.Core.Path.{_≡_, refl, sym, ap, subst, _∙_}
-use mathlib.Core.Logic.{_⊎_, inl, inr, _≢_}
+use mathlib.Core.Logic.{_⊎_, inl, inr, _≢_, _↔_}
 use mathlib.Core.Bool.{Bool, true, false, _&&_}
-use mathlib.Core.List.{List·Memᴰ}
+use mathlib.Core.List.{List·Memᴰ, List·Memᴰ·not-nil}
 use mathlib.Core.Option.{Option, some, none, Option·none-ne-some, Option·some-ne-none, Option·some-injective}
 use Prim.Native.Nat.{ℕ, zero, suc, _+_, _-_, _≤_}
 use native.Mathlib.Omega.{arith}
@@ -11,9 +11,10 @@ use native.Mathlib.Nat.{le-refl}
 use native.Mathlib.Decide.{decLe}
 use borrow.Author.Tests.{leb-true, le-leb, eqb-true}
 use lib.Dec.{leb, eqb}
-use Rattle.base.specs.Lists.{any}
-use Rattle.base.proofs.Truth.{not-both, and-i, and-e, or-r, or-e, any-i, any-e}
-use Rattle.theory.specs.Completions.{Graph, Completion, exit, step, within, completes, largest, lowOf}
+use Rattle.base.specs.Lists.{any, from}
+use Rattle.base.proofs.Lists.{from-i}
+use Rattle.base.proofs.Truth.{not-both, else-false, and-i, and-e, or-r, or-e, any-i, any-e}
+use Rattle.theory.specs.Completions.{Graph, Completion, exit, step, IsLow, NoLow, within, completes, largest, lowOf, fits}
 use Rattle.theory.specs.Setting.{WellFormed}
 
 pub away : {g : Graph} → WellFormed g → (v t : ℕ) → List·Memᴰ t (g .next v) → t ≢ 1
@@ -144,26 +145,63 @@ module _ (f : ℕ → Bool) where
 
 -- THE LOOK-UP
 module _ (g : Graph) (L : WellFormed g) where
-  -- a is the largest completion cost of v at or below r
-  pub record IsLow (v r a : ℕ) : Type 0 where
-    pub cost : Completion g v a
-    pub below : a ≤ r
-    pub most : (c : ℕ) → Completion g v c → c ≤ r → c ≤ a
-
-  pub low-some : (v r a : ℕ) → lowOf g v r ≡ some a → IsLow v r a
+  pub low-some : (v r a : ℕ) → lowOf g v r ≡ some a → IsLow g v r a
   unfolding lowOf
   low-some v r a e =
       let w = largest-some (completes g v) r a e in
       record { cost = completes-sound g L v a (w .passes); below = w .below; most = λ c d h. w .most c (completes-complete g L d) h }
 
-  pub low-none : (v r : ℕ) → lowOf g v r ≡ none → (c : ℕ) → Completion g v c → c ≤ r → ⊥
+  pub low-none : (v r : ℕ) → lowOf g v r ≡ none → NoLow g v r
   unfolding lowOf
   low-none v r e c d h = largest-none (completes g v) r e c (completes-complete g L d) h
 
-  -- a completion cost is its own low
-  pub low-self : {v c : ℕ} → Completion g v c → lowOf g v c ≡ some c
-  unfolding lowOf
-  low-self {v} {c} d = largest-self (completes g v) c (completes-complete g L d)
+  -- and back: the look-up finds what there is, and nothing where there is nothing
+  pub is-low : {v r a : ℕ} → IsLow g v r a → lowOf g v r ≡ some a
+  is-low {v} {r} {a} w = go (lowOf g v r) refl
+    where
+      go : (o : Option ℕ) → lowOf g v r ≡ o → lowOf g v r ≡ some a
+      go none e = absurd (low-none v r e a (w .cost) (w .below))
+      go (some d) e =
+          let x = low-some v r d e in
+          let p = w .most d (x .cost) (x .below) in
+          let q : d ≡ a = omega (arith, x .most a (w .cost) (w .below)) in
+          e ∙ ap some q
+
+  pub no-low : {v r : ℕ} → NoLow g v r → lowOf g v r ≡ none
+  no-low {v} {r} n = go (lowOf g v r) refl
+    where
+      go : (o : Option ℕ) → lowOf g v r ≡ o → lowOf g v r ≡ none
+      go none e = e
+      go (some a) e = let w = low-some v r a e in absurd (n a (w .cost) (w .below))
+
+  -- WHETHER SOMETHING FITS is whether there is such a completion
+  pub fits-i : (b n : ℕ) {v c : ℕ} → Completion g v c → c + n ≤ b → fits g b n v ≡ true
+  unfolding fits
+  fits-i b n {v} {c} d l =
+      any-i (λ c. leb (c + n) b && completes g v c) (from-i (suc b) 0 c (omega arith) (omega arith))
+      (and-i (le-leb (c + n) b l) (completes-complete g L d))
+
+  pub fits-e : (b n v : ℕ) → fits g b n v ≡ true → (c : ℕ) × Completion g v c × (c + n ≤ b)
+  unfolding fits
+  fits-e b n v p =
+      let m = any-e (λ c. leb (c + n) b && completes g v c) (from 0 (suc b)) p in
+      let e = and-e (leb (m .0 + n) b) (completes g v (m .0)) (m .2) in
+      (m .0, completes-sound g L v (m .0) (e .1), leb-true (m .0 + n) b (e .0))
+
+  pub fits-not : (b n v : ℕ) → ((c : ℕ) → Completion g v c → c + n ≤ b → ⊥) → fits g b n v ≡ false
+  fits-not b n v empty = else-false (fits g b n v) (λ p. let c = fits-e b n v p in empty (c .0) (c .1) (c .2))
+
+  -- and the look-up below the cycles left tells it, as long as no more is spent than there is
+  pub fits-some : (b n v a : ℕ) → n ≤ b → lowOf g v (b - n) ≡ some a → fits g b n v ≡ true
+  fits-some b n v a h e = let w = low-some v (b - n) a e in fits-i b n (w .cost) (omega (arith, w .below))
+
+  pub fits-none : (b n v : ℕ) → lowOf g v (b - n) ≡ none → fits g b n v ≡ false
+  fits-none b n v e = fits-not b n v (λ c d l. low-none v (b - n) e c d (omega arith))
+
+  -- "The exit's only completion costs 0."
+  pub exit-cost : {v c : ℕ} → Completion g v c → v ≡ 2 → c ≡ 0
+  exit-cost exit e = refl
+  exit-cost (step {t = t} m r q) e = absurd (List·Memᴰ·not-nil (subst (List·Memᴰ t) (ap (g .next) e ∙ L .closed) m))
 
   -- the cost of a completion covers its first block
   pub covers : {v c : ℕ} → Completion g v c → g .cost v ≤ c
@@ -178,3 +216,12 @@ module _ (g : Graph) (L : WellFormed g) where
       let fits : g .cost u ≤ a = covers (w .cost) in
       sym (largest-same (completes g v) (r - g .cost u) (a - g .cost u) (omega (arith, w .below))
       (λ c t h. let k = w .most (g .cost u + c) (step m (completes-sound g L v c t) refl) (omega (arith, w .below)) in omega arith))
+
+  -- so a copy serves every amount of cycles left whose largest completion cost is its low: each edge leads where that amount would
+  pub serves : (u v r a : ℕ) {s q : ℕ} → List·Memᴰ v (g .next u) → IsLow g u r a → a ≡ g .cost u + s → r ≡ g .cost u + q → (c : ℕ)
+      → IsLow g v s c ↔ IsLow g v q c
+  serves u v r a {s} {q} m w e f c =
+      let x : a - g .cost u ≡ s = omega arith in
+      let y : r - g .cost u ≡ q = omega arith in
+      let z : lowOf g v s ≡ lowOf g v q = rw (x, y) at (same-low u v r a m (is-low w)) in
+      (λ h. low-some v q c (sym z ∙ is-low h), λ h. low-some v s c (z ∙ is-low h))

@@ -1,8 +1,8 @@
 -- the test of a completion cost is exactly the completions, the look-up gives the largest, the key lemma:
 -- completes-sound, completes-complete, low-some, low-none, same-low
 pub mod Completions
--- the monitor is document 01's watch, sentence by sentence: acts-as-watch
-pub mod Watch
+-- the monitor is document 01's watch, sentence by sentence: monitor-acts
+pub mod Monitor
 -- machines that keep a relation answer alike: agree-all, runs-as
 pub mod Runs
 -- the monitor and the walk over copies: follows-all

@@ -26,11 +26,11 @@ path-completion {g} (hop {v = v} {t = t} {k = k} q r e) = step (chosen-mem (g .n
 
 -- a completion is a path
 pub completion-path : {g : Graph} {v c : ℕ} → Completion g v c → (ks : List ℕ) × (bs : List ℕ) × Path g v ks bs c
-completion-path exit = ([], [], here)
-completion-path {g} (step {t = t} m r e) =
+completion-path exit = ([], 2 ∷ [], here)
+completion-path {g} (step {v = v} m r e) =
     let k = choice-of m in
     let p = completion-path r in
-    (suc (k .0) ∷ p .0, t ∷ p .1, hop (k .1) (p .2) e)
+    (suc (k .0) ∷ p .0, v ∷ p .1, hop (k .1) (p .2) e)
 
 pub not-both : diverted ≡ at-exit → ⊥
 not-both e = let z : _≡_ {A = ℕ} 0 1 = cc in omega arith
@@ -75,7 +75,7 @@ module _ (g : Graph) (L : WellFormed g) where
       go (lowOf g t (a - g .cost v)) refl (λ d x. runs r d (suc m) x)
     where
       go : (o : Option ℕ) → lowOf g t (a - g .cost v) ≡ o → ((d : ℕ) → c ≤ d → Runs (entered (copyOf t d) (suc m)) ks bs)
-          → Runs (entered (copyOf v a) m) (k ∷ ks) (t ∷ bs)
+          → Runs (entered (copyOf v a) m) (k ∷ ks) (v ∷ bs)
       go none p below = absurd (low-none g L t (a - g .cost v) p c (path-completion r) (omega arith))
       go (some d) p below =
           let w = low-some g L t (a - g .cost v) d p in
@@ -83,9 +83,7 @@ module _ (g : Graph) (L : WellFormed g) where
           let s = enters v a m k t d q p in
           record {
             answer = ap₂ (λ x y. x ∷ y) (ap (λ z. z .answer) s) (ap (λ z. answers (reply (copyWalk g)) (z .after) ks) s ∙ h .answer);
-            blocks =
-                ap₂ (λ x y. x ∷ y) (ap (λ z. z .after .copy .block) s)
-                (ap (λ z. shown (reply (copyWalk g)) (λ u. u .copy .block) (z .after) ks) s ∙ h .blocks);
+            blocks = ap (λ y. v ∷ y) (ap (λ z. shown (reply (copyWalk g)) (λ u. u .copy .block) (z .after) ks) s ∙ h .blocks);
             end = ap (λ z. final (reply (copyWalk g)) (z .after) ks .end) s ∙ h .end;
           }
 

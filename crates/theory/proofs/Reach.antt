@@ -8,15 +8,16 @@ use mathlib.Core.List.{Memᴰ·map, Memᴰ·of-map, Memᴰ·cast}
 use mathlib.Core.Option.{Option, some, none, Option·map, Option·none-ne-some, Option·some-ne-none, Option·some-injective}
 use Prim.Native.Nat.{ℕ, zero, suc, _+_, _-_, _≤_}
 use native.Mathlib.Omega.{arith}
+use native.Mathlib.Nat.{le-refl}
 use native.Mathlib.Decide.{ℕ-discrete, decLe}
 use Rattle.base.specs.Lists.{each, from}
 use Rattle.base.specs.Copy.{Copy, copyOf, isIn}
 use Rattle.base.proofs.Lists.{each-i, each-e, keep-i, keep-e, from-i, choice-of}
 use Rattle.base.proofs.Copies.{isIn-mem, mem-isIn}
-use Rattle.theory.specs.Completions.{Graph, Completion, exit, step, lowOf}
+use Rattle.theory.specs.Completions.{Graph, Completion, exit, step, IsLow, lowOf}
 use Rattle.theory.specs.Copies.{targets, copyFor, add, join, spread, candidates, startCopies, copiesFrom, Reached, start, along}
 use Rattle.theory.specs.Setting.{WellFormed, Setting, Entry, starts, copies, exitCopy, startCopy}
-use Rattle.theory.proofs.Completions.{away, IsLow, low-some, low-self, covers}
+use Rattle.theory.proofs.Completions.{away, low-some, is-low, exit-cost, covers}
 use Rattle.theory.proofs.Counts.{target-of, edge-of}
 
 candidate : (n b : ℕ) (c : Copy) → (1 ≤ c .block) × (c .block ≤ n) → c .low ≤ b → List·Memᴰ c (candidates n b)
@@ -110,39 +111,7 @@ start-e g bs c m = go (join-e (map (λ b. copyFor g b 1) bs) c [] m)
     go (inl n) = let r = Memᴰ·of-map (λ b. copyFor g b 1) bs n in at (r .0) (r .1) (lowOf g 1 (r .0)) refl (r .2)
     go (inr n) = absurd (List·Memᴰ·not-nil n)
 
--- REACHED COPIES
-
-module _ (g : Graph) (ss : List Copy) where
-  reached-spread : {j : ℕ} {c : Copy} → Reached g ss j c → List·Memᴰ c (spread g j ss)
-  unfolding spread
-  reached-spread (start m) = m
-  reached-spread (along {j = j} {c = c} {d = d} r q) =
-      let cs = spread g j ss in
-      join-new (each (targets g) cs) d cs (each-i (targets g) cs (reached-spread r) q)
-
-  spread-le : (n k : ℕ) (c : Copy) → k ≤ n → List·Memᴰ c (spread g k ss) → List·Memᴰ c (spread g n ss)
-  unfolding spread
-  spread-le zero k c l m = let e : k ≡ 0 = omega arith in subst (λ (x : ℕ). List·Memᴰ c (spread g x ss)) e m
-  spread-le (suc n) k c l m = go (decLe k n) (spread-le n k c)
-    where
-      go : Dec (k ≤ n) → (k ≤ n → List·Memᴰ c (spread g k ss) → List·Memᴰ c (spread g n ss)) → List·Memᴰ c (spread g (suc n) ss)
-      go (yes p) below = join-old (each (targets g) (spread g n ss)) c (spread g n ss) (below p m)
-      go (no p) below = let e : k ≡ suc n = omega arith in subst (λ (x : ℕ). List·Memᴰ c (spread g x ss)) e m
-
-  spread-reached : (k : ℕ) (c : Copy) → List·Memᴰ c (spread g k ss) → (j : ℕ) × Reached g ss j c
-  unfolding spread
-  spread-reached zero c m = (0, start m)
-  spread-reached (suc k) c m = go (spread-reached k) (join-e (each (targets g) (spread g k ss)) c (spread g k ss) m)
-    where
-      go : ((d : Copy) → List·Memᴰ d (spread g k ss) → (j : ℕ) × Reached g ss j d)
-          → List·Memᴰ (some c) (each (targets g) (spread g k ss)) ⊎ List·Memᴰ c (spread g k ss) → (j : ℕ) × Reached g ss j c
-      go below (inl n) =
-          let r = each-e (targets g) (spread g k ss) n in
-          let h = below (r .0) (r .1) in
-          (suc (h .0), along (h .1) (r .2))
-      go below (inr n) = below c n
-
--- THE COPIES OF A SETTING
+-- EDGES BETWEEN COPIES
 
 -- a target of a copy is the copy of a successor
 pub target-mem : (g : Graph) (c d : Copy) → List·Memᴰ (some d) (targets g c)
@@ -156,6 +125,60 @@ unfolding targets copyFor
 target-i g u a t d m e =
     let s : copyFor g (a - g .cost u) t ≡ some (copyOf t d) = ap (Option·map (copyOf t)) e in
     Memᴰ·cast (sym s) (Memᴰ·map (copyFor g (a - g .cost u)) m)
+
+-- REACHED COPIES, from start copies whose lows cover their blocks
+
+module _ (g : Graph) (L : WellFormed g) where
+  -- an edge of the construction is a target
+  pub edge-target : (c d : Copy) {r : ℕ} → List·Memᴰ (d .block) (g .next (c .block)) → c .low ≡ g .cost (c .block) + r
+      → IsLow g (d .block) r (d .low) → List·Memᴰ (some d) (targets g c)
+  edge-target c d {r} m e w =
+      let q : c .low - g .cost (c .block) ≡ r = omega arith in
+      target-i g (c .block) (c .low) (d .block) (d .low) m (rw q (is-low g L w))
+
+  module _ (ss : List Copy) (paid : (c : Copy) → List·Memᴰ c ss → g .cost (c .block) ≤ c .low) where
+    -- a reached copy's low covers its block
+    reached-covers : {j : ℕ} {c : Copy} → Reached g ss j c → g .cost (c .block) ≤ c .low
+    reached-covers (start {c = c} m) = paid c m
+    reached-covers (along r m e w) = covers g L (w .cost)
+
+    -- and a target is an edge of the construction
+    pub onward : {j : ℕ} {c d : Copy} → Reached g ss j c → List·Memᴰ (some d) (targets g c) → Reached g ss (suc j) d
+    onward {j} {c} {d} r m =
+        let t = target-mem g c d m in
+        let e : c .low ≡ g .cost (c .block) + (c .low - g .cost (c .block)) = omega (arith, reached-covers r) in
+        along r (t .0) e (low-some g L (d .block) (c .low - g .cost (c .block)) (d .low) (t .1))
+
+    reached-spread : {j : ℕ} {c : Copy} → Reached g ss j c → List·Memᴰ c (spread g j ss)
+    unfolding spread
+    reached-spread (start m) = m
+    reached-spread (along {j = j} {c = c} {d = d} r m e w) =
+        let cs = spread g j ss in
+        join-new (each (targets g) cs) d cs (each-i (targets g) cs (reached-spread r) (edge-target c d m e w))
+
+    spread-reached : (k : ℕ) (c : Copy) → List·Memᴰ c (spread g k ss) → (j : ℕ) × Reached g ss j c
+    unfolding spread
+    spread-reached zero c m = (0, start m)
+    spread-reached (suc k) c m = go (spread-reached k) (join-e (each (targets g) (spread g k ss)) c (spread g k ss) m)
+      where
+        go : ((d : Copy) → List·Memᴰ d (spread g k ss) → (j : ℕ) × Reached g ss j d)
+            → List·Memᴰ (some c) (each (targets g) (spread g k ss)) ⊎ List·Memᴰ c (spread g k ss) → (j : ℕ) × Reached g ss j c
+        go below (inl n) =
+            let r = each-e (targets g) (spread g k ss) n in
+            let h = below (r .0) (r .1) in
+            (suc (h .0), onward (h .1) (r .2))
+        go below (inr n) = below c n
+
+spread-le : (g : Graph) (ss : List Copy) (n k : ℕ) (c : Copy) → k ≤ n → List·Memᴰ c (spread g k ss) → List·Memᴰ c (spread g n ss)
+unfolding spread
+spread-le g ss zero k c l m = let e : k ≡ 0 = omega arith in subst (λ (x : ℕ). List·Memᴰ c (spread g x ss)) e m
+spread-le g ss (suc n) k c l m = go (decLe k n) (spread-le g ss n k c)
+  where
+    go : Dec (k ≤ n) → (k ≤ n → List·Memᴰ c (spread g k ss) → List·Memᴰ c (spread g n ss)) → List·Memᴰ c (spread g (suc n) ss)
+    go (yes p) below = join-old (each (targets g) (spread g n ss)) c (spread g n ss) (below p m)
+    go (no p) below = let e : k ≡ suc n = omega arith in subst (λ (x : ℕ). List·Memᴰ c (spread g x ss)) e m
+
+-- THE COPIES OF A SETTING
 
 module _ (S : Setting) where
   abbrev g : Graph
@@ -190,22 +213,22 @@ module _ (S : Setting) where
         place = omega (arith, e .2, two);
         first = λ q. (refl, m);
       }
-  sound (along {j = j} {c = c} {d = d} r m) =
-      let h = sound r in
-      let t = target-mem g c d m in
-      let w = low-some g L (d .block) (c .low - g .cost (c .block)) (d .low) (t .1) in
+  sound (along {j = j} {r = r} {c = c} {d = d} p m e w) =
+      let h = sound p in
       record {
         cost = w .cost;
-        time = time h t w (ℕ-discrete (c .block) 1);
+        time = time h (ℕ-discrete (c .block) 1);
         small = omega (arith, w .below, h .small);
-        place = omega (arith, L .above (c .block) (d .block) (t .0), S .inside (c .block) (d .block) (t .0));
-        first = λ q. absurd (away L (c .block) (d .block) (t .0) q);
+        place = omega (arith, L .above (c .block) (d .block) m, S .inside (c .block) (d .block) m);
+        first = λ q. absurd (away L (c .block) (d .block) m q);
       }
     where
-      time : Sound j c → List·Memᴰ (d .block) (g .next (c .block)) × (lowOf g (d .block) (c .low - g .cost (c .block)) ≡ some (d .low))
-          → IsLow g L (d .block) (c .low - g .cost (c .block)) (d .low) → Dec (c .block ≡ 1) → suc j + d .low ≤ suc (S .largest)
-      time h t w (yes e) = omega (arith, h .first e .0, w .below, h .small)
-      time h t w (no e) = omega (arith, L .paid (c .block) (d .block) (t .0) e, covers g L (h .cost), w .below, h .time)
+      time : Sound j c → Dec (c .block ≡ 1) → suc j + d .low ≤ suc (S .largest)
+      time h (yes q) = omega (arith, h .first q .0, w .below, h .small)
+      time h (no q) = omega (arith, L .paid (c .block) (d .block) m q, w .below, h .time)
+
+  start-paid : (c : Copy) → List·Memᴰ c (starts S) → g .cost (c .block) ≤ c .low
+  start-paid c m = omega (arith, ap (g .cost) (start-e g (S .budgets) c m .2), L .free)
 
   abbrev all-reached : List Copy
   all-reached = spread g (suc (S .largest)) (starts S)
@@ -216,12 +239,13 @@ module _ (S : Setting) where
   reached-in j c r =
       let h = sound r in
       keep-i (λ c. isIn c all-reached) (candidates (S .blocks) (S .largest)) (candidate (S .blocks) (S .largest) c (h .place) (h .small))
-      (mem-isIn c all-reached (spread-le g (starts S) (suc (S .largest)) j c (omega (arith, h .time)) (reached-spread g (starts S) r)))
+      (mem-isIn c all-reached
+      (spread-le g (starts S) (suc (S .largest)) j c (omega (arith, h .time)) (reached-spread g L (starts S) start-paid r)))
 
   pub in-reached : (c : Copy) → List·Memᴰ c (copies S) → (j : ℕ) × Reached g (starts S) j c
   unfolding copiesFrom
   in-reached c m =
-      spread-reached g (starts S) (suc (S .largest)) c
+      spread-reached g L (starts S) start-paid (suc (S .largest)) c
       (isIn-mem c _ (keep-e (λ c. isIn c all-reached) (candidates (S .blocks) (S .largest)) m .1))
 
   pub copy-sound : (c : Copy) → List·Memᴰ c (copies S) → (j : ℕ) × Sound j c
@@ -229,7 +253,7 @@ module _ (S : Setting) where
 
   -- the targets of a copy are copies
   pub targets-in : (c d : Copy) → List·Memᴰ c (copies S) → List·Memᴰ (some d) (targets g c) → List·Memᴰ d (copies S)
-  targets-in c d m t = let r = in-reached c m in reached-in (suc (r .0)) d (along (r .1) t)
+  targets-in c d m t = let r = in-reached c m in reached-in (suc (r .0)) d (onward g L (starts S) start-paid (r .1) t)
 
   -- every entry's start copy is a copy, and a copy of block 1 is the start copy of an entry
   pub start-in : (E : Entry S) → List·Memᴰ (startCopy S E) (copies S)
@@ -247,9 +271,8 @@ module _ (S : Setting) where
   to-exit : {v c : ℕ} → Completion g v c → (j : ℕ) → Reached g (starts S) j (copyOf v c)
       → (i : ℕ) × Reached g (starts S) i (exitCopy S)
   to-exit exit j r = (j, r)
-  to-exit (step {v = v} {t = t} {c = c} {n = m} e d q) j r =
-      let p : m - g .cost v ≡ c = omega arith in
-      to-exit d (suc j) (along r (target-i g v m t c e (rw p (low-self g L d))))
+  to-exit (step {c = c} m d q) j r =
+      to-exit d (suc j) (along r m q (record { cost = d; below = le-refl c; most = λ n e l. l }))
 
   pub exit-in : List·Memᴰ (exitCopy S) (copies S)
   exit-in =
@@ -257,9 +280,5 @@ module _ (S : Setting) where
       (start (start-i g (S .budgets) (S .largest) (S .start) (S .named) (S .opens))) in
       reached-in (r .0) (exitCopy S) (r .1)
 
-  exit-cost : {v c : ℕ} → Completion g v c → v ≡ 2 → c ≡ 0
-  exit-cost exit e = refl
-  exit-cost (step {t = t} m r q) e = absurd (List·Memᴰ·not-nil (subst (List·Memᴰ t) (ap (g .next) e ∙ L .closed) m))
-
   pub exit-only : (c : Copy) → List·Memᴰ c (copies S) → c .block ≡ 2 → c ≡ exitCopy S
-  exit-only c m e = let z : c .low ≡ 0 = exit-cost (copy-sound c m .1 .cost) e in λ i. record { block = e i; low = z i }
+  exit-only c m e = let z : c .low ≡ 0 = exit-cost g L (copy-sound c m .1 .cost) e in λ i. record { block = e i; low = z i }

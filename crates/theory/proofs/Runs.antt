@@ -75,10 +75,10 @@ module _ {S X U Y : Type 0} (m : Machine S X) (n : Machine U Y) (R : S → U →
     (alike : (s : S) (u : U) → R s u → view s ≡ look u) where
   pub shown-all : (ks : List ℕ) (s : S) (u : U) → R s u → shown (reply m) view s ks ≡ shown (reply n) look u ks
   unfolding shown
-  shown-all [] s u h = refl
+  shown-all [] s u h = ap (λ (x : ℕ). x ∷ []) (alike s u h)
   shown-all (k ∷ ks) s u h =
       let a = agree m n R K s u h k in
-      ap₂ (λ x xs. x ∷ xs) (alike _ _ (a .after)) (shown-all ks (reply m s k .after) (reply n u k .after) (a .after))
+      ap₂ (λ x xs. x ∷ xs) (alike s u h) (shown-all ks (reply m s k .after) (reply n u k .after) (a .after))
 
 -- a machine that has ended stays
 pub stays : {S X : Type 0} (m : Machine S X) (s : S) → m .stands s ≢ going → (ks : List ℕ) → final (reply m) s ks ≡ s
@@ -124,6 +124,5 @@ module _ {S X I : Type 0} (m : Machine S X) (call : S → I → Reply S) (choice
       record {
         answer = ap₂ (λ x xs. x ∷ xs) (ap (λ (z : Reply S). z .answer) e) (ap (λ (z : Reply S). answers call (z .after) is) e ∙ r .answer);
         last = ap (λ (z : Reply S). final call (z .after) is) e ∙ r .last;
-        show = λ view. ap₂ (λ x xs. x ∷ xs) (ap (λ (z : Reply S). view (z .after)) e)
-            (ap (λ (z : Reply S). shown call view (z .after) is) e ∙ r .show view);
+        show = λ view. ap (λ xs. view s ∷ xs) (ap (λ (z : Reply S). shown call view (z .after) is) e ∙ r .show view);
       }

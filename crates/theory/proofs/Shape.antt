@@ -8,7 +8,7 @@ use Prim.Native.Nat.{ℕ, zero, suc, _-_}
 use native.Mathlib.Omega.{arith}
 use lib.Dec.{eqb}
 use Rattle.base.specs.Lists.{chosen}
-use Rattle.theory.specs.Completions.{Graph, lowOf}
+use Rattle.theory.specs.Completions.{Graph, fits}
 use Rattle.base.specs.Copy.{Copy}
 use Rattle.theory.specs.Copies.{targets, targetNumber}
 use Rattle.theory.specs.Machines.{going}
@@ -16,7 +16,7 @@ use Rattle.theory.specs.Walks.{Walk, startAt, starting, endAt, mostMoves
 use Rattle.theory.specs.Walks.{copyTake, Bounded, boundedTake, boundedWalk}
 use Rattle.theory.specs.Setting.{Setting, Entry, copies, startCopy, entryPlace, LaysOut}
 use Rattle.base.proofs.Lists.{chosen-map, chosen-mem, chosen-le}
-use Rattle.theory.proofs.Completions.{low-some, covers}
+use Rattle.theory.proofs.Completions.{fits-e, covers}
 use Rattle.theory.proofs.Counts.{Timely, timely-take, timely-start}
 use Rattle.theory.proofs.Reach.{two, start-in}
 use Rattle.theory.proofs.Agreement.{Sits, setOut, sits-take, sits-start, same-end, within-most}
@@ -45,18 +45,18 @@ module _ (S : Setting) (b : ℕ) where
       → chosen (monitor g b .targets s) k ≡ some t
       → InShape (S .blocks) 2 b (monitor g b .take s t)
   unfolding monitor monitorTake isExit
-  monitor-kept s h e k t q = go (lowOf g t (b - s .count)) refl
+  monitor-kept s h e k t q = go (fits g b (s .count) t) refl
     where
-      go : (o : Option ℕ) → lowOf g t (b - s .count) ≡ o → InShape (S .blocks) 2 b (monitorTake g b s t (lowOf g t (b - s .count)))
-      go none p = rw p (record { place = h .place; ended = sym (ap isExit e) ∙ h .ended; count = h .count })
-      go (some a) p =
-          let v = low-some g (S .laws) t (b - s .count) a p in
-          let c = covers g (S .laws) (v .cost) in
+      go : (f : Bool) → fits g b (s .count) t ≡ f → InShape (S .blocks) 2 b (monitorTake g b s t (fits g b (s .count) t))
+      go false p = rw p (record { place = h .place; ended = sym (ap isExit e) ∙ h .ended; count = h .count })
+      go true p =
+          let v = fits-e g (S .laws) b (s .count) t p in
+          let c = covers g (S .laws) (v .1) in
           let m = chosen-mem (g .next (s .place)) k t q in
           rw p (record {
             place = omega (arith, S .laws .above (s .place) t m, S .inside (s .place) t m);
             ended = entered-shape 2 t;
-            count = omega (arith, v .below, h .count);
+            count = omega (arith, v .2);
           })
 
   pub monitor-start : InShape (S .blocks) 2 b starting

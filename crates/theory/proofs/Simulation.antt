@@ -13,7 +13,7 @@ use Rattle.theory.specs.Machines.{reply, answers, final}
 use Rattle.theory.specs.Walks.{Walk, startAt, starting, endAt, monitor, monitorTake, CopyWalk, entered, copyTake, copyWalk}
 use Rattle.theory.specs.Setting.{WellFormed}
 use Rattle.base.proofs.Lists.{chosen-map, chosen-mem}
-use Rattle.theory.proofs.Completions.{low-some, covers, same-low}
+use Rattle.theory.proofs.Completions.{low-some, fits-some, fits-none, covers, same-low}
 use Rattle.theory.proofs.Runs.{Alike, neither, both, Keeps, agree-all}
 
 module _ (g : Graph) (L : WellFormed g) (b : ℕ) where
@@ -43,12 +43,14 @@ module _ (g : Graph) (L : WellFormed g) (b : ℕ) where
 
       go : (o : Option ℕ) → lowOf g t (b - s .count) ≡ o
           → Follows (monitor g b .take s t) (copyWalk g .take u (copyFor g (u .copy .low - g .cost (s .place)) t))
-      go none e = rw (same, e) (record { block = h .block; end = refl; count = h .count; low = h .low })
+      go none e =
+          rw (same, e, fits-none g L b (s .count) t e) (record { block = h .block; end = refl; count = h .count; low = h .low })
       go (some a) e =
           let w = low-some g L t (b - s .count) a e in
           let c : g .cost t ≤ a = covers g L (w .cost) in
           let q : g .cost t + (b - (s .count + g .cost t)) ≡ b - s .count = omega (arith, w .below, h .count) in
-          rw (same, e) (record { block = refl; end = refl; count = omega (arith, w .below, h .count); low = rw q e })
+          rw (same, e, fits-some g L b (s .count) t a (h .count) e)
+          (record { block = refl; end = refl; count = omega (arith, w .below, h .count); low = rw q e })
 
   follows-move : (s : Walk) (u : CopyWalk) → Follows s u → (k : ℕ)
       → Alike (monitor g b) (copyWalk g) Follows s u (chosen (g .next (s .place)) k) (chosen (targets g (u .copy)) k)

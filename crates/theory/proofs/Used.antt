@@ -12,9 +12,9 @@ use Rattle.theory.specs.Completions.{Graph, lowOf}
 use Rattle.theory.specs.Copies.{Reached, start, along}
 use Rattle.theory.specs.Walks.{Path, here, hop}
 use Rattle.theory.specs.Setting.{WellFormed, Setting, Entry, Kept, starts, copies}
-use Rattle.theory.proofs.Completions.{low-some, low-none, covers}
+use Rattle.theory.proofs.Completions.{low-some, low-none}
 use Rattle.theory.proofs.Paths.{path-completion, completion-path}
-use Rattle.theory.proofs.Reach.{target-mem, target-i, sound, in-reached, copy-sound, targets-in, start-in, entry-of}
+use Rattle.theory.proofs.Reach.{target-i, sound, in-reached, copy-sound, targets-in, start-in, entry-of}
 
 module _ (S : Setting) where
   abbrev g : Graph
@@ -29,7 +29,7 @@ module _ (S : Setting) where
 
   -- a path from a reached copy that costs at most its low is the rest of a kept path
   rest-kept : {j n : ℕ} {c : Copy} {ks bs : List ℕ} → Reached g (starts S) j c → Path g (c .block) ks bs n → n ≤ c .low
-      → (v : ℕ) → List·Memᴰ v (c .block ∷ bs) → Kept g (S .largest) v
+      → (v : ℕ) → List·Memᴰ v bs → Kept g (S .largest) v
   rest-kept {n = n} {ks = ks} {bs = bs} (start {c = c} m) p l v i =
       let first : c .block ≡ 1 = sym (ap (λ (d : Copy). d .block) (entry-of S c m .1)) in
       record {
@@ -38,23 +38,21 @@ module _ (S : Setting) where
         cost = n;
         path = subst (λ (u : ℕ). Path g u ks bs n) first p;
         within = omega (arith, sound S (start m) .small);
-        enters = subst (λ (u : ℕ). List·Memᴰ v (u ∷ bs)) first i;
+        enters = i;
       }
-  rest-kept (along {c = c} {d = d} r m) p l v i =
-      let t = target-mem g c d m in
-      let w = low-some g L (d .block) (c .low - g .cost (c .block)) (d .low) (t .1) in
-      rest-kept r (hop (choice-of (t .0) .1) p refl) (omega (arith, w .below, covers g L (sound S r .cost))) v (List·Memᴰ·tail i)
+  rest-kept (along r m e w) p l v i =
+      rest-kept r (hop (choice-of m .1) p refl) (omega (arith, w .below)) v (List·Memᴰ·tail i)
 
   -- every block of a path from a copy that costs at most its low has a copy
   path-used : {u c : ℕ} {ks bs : List ℕ} → Path g u ks bs c → (a : ℕ) → List·Memᴰ (copyOf u a) (copies S) → c ≤ a
-      → (v : ℕ) → List·Memᴰ v (u ∷ bs) → Used v
+      → (v : ℕ) → List·Memᴰ v bs → Used v
   path-used here a m l v i = (copyOf 2 a, m, sym (List·Memᴰ·eq-of-singleton i))
   path-used (hop {v = u} {t = t} {c = c} {k = k} {bs = bs} q r e) a m l v i =
       go (lowOf g t (a - g .cost u)) refl (path-used r) (List·Memᴰ·cases-cons i)
     where
       go : (o : Option ℕ) → lowOf g t (a - g .cost u) ≡ o
-          → ((d : ℕ) → List·Memᴰ (copyOf t d) (copies S) → c ≤ d → (v : ℕ) → List·Memᴰ v (t ∷ bs) → Used v)
-          → (v ≡ u) ⊎ List·Memᴰ v (t ∷ bs) → Used v
+          → ((d : ℕ) → List·Memᴰ (copyOf t d) (copies S) → c ≤ d → (v : ℕ) → List·Memᴰ v bs → Used v)
+          → (v ≡ u) ⊎ List·Memᴰ v bs → Used v
       go o p below (inl x) = (copyOf u a, m, sym x)
       go none p below (inr x) = absurd (low-none g L t (a - g .cost u) p c (path-completion r) (omega arith))
       go (some d) p below (inr x) =
@@ -68,11 +66,16 @@ module _ (S : Setting) where
       let w = low-some g L 1 (S .largest) (S .start) (S .opens) in
       path-used (K .path) (S .start) (start-in S E) (w .most (K .cost) (path-completion (K .path)) (K .within)) v (K .enters)
 
+  -- a path's first block is among its blocks
+  first-block : {u c : ℕ} {ks bs : List ℕ} → Path g u ks bs c → (v : ℕ) → v ≡ u → List·Memᴰ v bs
+  first-block here v e = List·Memᴰ·head e
+  first-block (hop q r p) v e = List·Memᴰ·head e
+
   used-kept : (v : ℕ) → Used v → Kept g (S .largest) v
   used-kept v (c, m, e) =
       let r = in-reached S c m in
       let p = completion-path (copy-sound S c m .1 .cost) in
-      rest-kept (r .1) (p .2) (omega arith) v (List·Memᴰ·head (sym e))
+      rest-kept (r .1) (p .2) (omega arith) v (first-block (p .2) v (sym e))
 
   -- every reached copy lies on a kept path, and every block of a kept path has a copy
   pub used : (v : ℕ) → ((c : Copy) × List·Memᴰ c (copies S) × (c .block ≡ v)) ↔ Kept (S .graph) (S .largest) v

@@ -4,9 +4,9 @@ use mathlib.Core.Path.{_≡_}
 use mathlib.Core.Bool.{Bool, true, false, _&&_, _||_}
 use mathlib.Core.List.{List, List·Memᴰ}
 use mathlib.Core.Option.{Option, some, none}
-use Prim.Native.Nat.{ℕ, zero, suc, _+_, _-_}
+use Prim.Native.Nat.{ℕ, zero, suc, _+_, _-_, _≤_}
 use lib.Dec.{leb, eqb}
-use Rattle.base.specs.Lists.{any}
+use Rattle.base.specs.Lists.{any, from}
 
 -- a block's cost, and its successors in order; block 1 is the start, block 2 the exit
 pub record Graph : Type 0 where
@@ -18,7 +18,19 @@ pub data Completion (g : Graph) : ℕ → ℕ → Type 0 where
   exit : Completion g 2 0
   step : {v t c n : ℕ} → List·Memᴰ t (g .next v) → Completion g t c → n ≡ g .cost v + c → Completion g v n
 
--- the same as a test, for paths of at most k edges
+-- a is the largest completion cost of v at or below r (document 01 calls it low)
+pub record IsLow (g : Graph) (v r a : ℕ) : Type 0 where
+  pub cost : Completion g v a
+  pub below : a ≤ r
+  pub most : (c : ℕ) → Completion g v c → c ≤ r → c ≤ a
+
+-- v has no completion cost at or below r
+abbrev pub NoLow : Graph → ℕ → ℕ → Type 0
+NoLow g v r = (c : ℕ) → Completion g v c → c ≤ r → ⊥
+
+-- HOW THEY ARE COMPUTED (proofs Completions: these are exactly the above)
+
+-- a path of at most k edges from v to the exit costs c
 unfoldable pub within : Graph → ℕ → ℕ → ℕ → Bool
 within g zero v c = eqb v 2 && eqb c 0
 within g (suc k) v c = (eqb v 2 && eqb c 0) || (leb (g .cost v) c && any (λ t. within g k t (c - g .cost v)) (g .next v))
@@ -35,3 +47,7 @@ largest f (suc r) = elim (f (suc r)) [ true ↦ some (suc r) | false ↦ largest
 -- the largest completion cost of v at or below r
 unfoldable pub lowOf : Graph → ℕ → ℕ → Option ℕ
 lowOf g v r = largest (completes g v) r
+
+-- v has a completion that costs, with n cycles more, at most b
+unfoldable pub fits : Graph → ℕ → ℕ → ℕ → Bool
+fits g b n v = any (λ c. leb (c + n) b && completes g v c) (from 0 (suc b))

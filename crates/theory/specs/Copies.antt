@@ -1,12 +1,22 @@
 -- The copies that serve the cycles left, and those that are reached from some start copies (document 01, "Completions and copies").
 -- Rests on base Lists and Copy, Completions.
+use mathlib.Core.Path.{_≡_}
 use mathlib.Core.Bool.{true, false}
 use mathlib.Core.List.{List, [], _∷_, map, List·Memᴰ}
 use mathlib.Core.Option.{Option, some, none, Option·map}
-use Prim.Native.Nat.{ℕ, zero, suc, _-_}
+use Prim.Native.Nat.{ℕ, zero, suc, _+_, _-_}
 use Rattle.base.specs.Lists.{keep, each, from}
 use Rattle.base.specs.Copy.{Copy, copyOf, isIn, numberFrom}
-use Rattle.theory.specs.Completions.{Graph, lowOf}
+use Rattle.theory.specs.Completions.{Graph, IsLow, lowOf}
+
+-- A COPY REACHED from some start copies by j edges. "For an edge from copy (u, a) to block v, take a − cost(u)", which is r: "with no completion
+-- cost of v at or below it, the edge is diverted; else it goes to v's copy whose low is the largest such cost."
+pub data Reached (g : Graph) (starts : List Copy) : ℕ → Copy → Type 0 where
+  start : {c : Copy} → List·Memᴰ c starts → Reached g starts 0 c
+  along : {j r : ℕ} {c d : Copy} → Reached g starts j c → List·Memᴰ (d .block) (g .next (c .block)) → c .low ≡ g .cost (c .block) + r
+      → IsLow g (d .block) r (d .low) → Reached g starts (suc j) d
+
+-- HOW THEY ARE COMPUTED (proofs Reach: these are exactly the copies reached)
 
 -- the copy of v that serves r cycles left, if any: its low is the largest completion cost at or below r
 unfoldable pub copyFor : Graph → ℕ → ℕ → Option Copy
@@ -42,11 +52,6 @@ startCopies g bs = join (map (λ b. copyFor g b 1) bs) []
 -- "all copies reached so, and no other", from some start copies: by block and then low, where no low is above b
 unfoldable pub copiesFrom : Graph → ℕ → ℕ → List Copy → List Copy
 copiesFrom g n b starts = let cs = spread g (suc b) starts in keep (λ c. isIn c cs) (candidates n b)
-
--- the same as an inductive family: a copy reached from the start copies by j edges
-pub data Reached (g : Graph) (starts : List Copy) : ℕ → Copy → Type 0 where
-  start : {c : Copy} → List·Memᴰ c starts → Reached g starts 0 c
-  along : {j : ℕ} {c d : Copy} → Reached g starts j c → List·Memᴰ (some d) (targets g c) → Reached g starts (suc j) d
 
 -- the number that an edge's target has among the copies, 0 for the exception exit
 unfoldable pub targetNumber : List Copy → Option Copy → ℕ

@@ -48,12 +48,12 @@ module _ {S I : Type 0} (step : S → I → Reply S) where
   final s [] = s
   final s (i ∷ is) = final (step s i .after) is
 
-  -- what is shown after each step
+  -- what is shown, before the first step and after each
   unfoldable pub shown : (S → ℕ) → S → List I → List ℕ
-  shown view s [] = []
-  shown view s (i ∷ is) = view (step s i .after) ∷ shown view (step s i .after) is
+  shown view s [] = view s ∷ []
+  shown view s (i ∷ is) = view s ∷ shown view (step s i .after) is
 
-  -- a list that runs unchanged: each answer is 0, the blocks bs are shown in order, and the end is the exit
+  -- a list that runs unchanged: each answer is 0, the blocks bs are shown in order, the first before any step, and the end is the exit
   pub record Unchanged (view : S → ℕ) (stands : S → End) (s : S) (is : List I) (bs : List ℕ) : Type 0 where
     pub answer : answers s is ≡ replicate (length is) 0
     pub blocks : shown view s is ≡ bs

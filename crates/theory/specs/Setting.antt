@@ -4,7 +4,7 @@ use mathlib.Core.Path.{_≡_}
 use mathlib.Core.Logic.{_≢_, _⊎_, _↔_}
 use mathlib.Core.List.{List, [], _∷_, map, List·Memᴰ}
 use mathlib.Core.Option.{some}
-use Prim.Native.Nat.{ℕ, _+_, _-_, _≤_, _<_}
+use Prim.Native.Nat.{ℕ, _+_, _≤_, _<_}
 use lib.ListN.{length}
 use Rattle.base.specs.Lists.{chosen}
 use Rattle.base.specs.Copy.{Copy, copyOf, numberFrom}
@@ -23,29 +23,29 @@ pub record WellFormed (g : Graph) : Type 0 where
   pub closed : g .next 2 ≡ []
 
 -- THE MONITOR, SENTENCE BY SENTENCE (document 01, "The watch and the list of choices")
-pub record ActsAsWatch (g : Graph) (b : ℕ) : Type 0 where
+pub record MonitorActs (g : Graph) (b : ℕ) : Type 0 where
   -- "After the end it answers 32, and nothing changes."
   pub ended : (s : Walk) (k : ℕ) → s .end ≢ going → reply (monitor g b) s k ≡ record { answer = 32; after = s }
   -- "Else, a choice of 0 or above the block's number of successors is answered 31, and nothing changes."
   pub no-choice : (s : Walk) (k : ℕ) → s .end ≡ going → (k ≡ 0) ⊎ (length (g .next (s .place)) < k)
       → reply (monitor g b) s k ≡ record { answer = 31; after = s }
   -- "Else it answers 0 and looks at the target of the chosen edge. Where the target has a completion costing at most B − count, it
-  -- becomes the block and its cost is added to the count; if it is block 2, the end is exit."
-  pub enters : (s : Walk) (k t c : ℕ) → s .end ≡ going → chosen (g .next (s .place)) k ≡ some t → Completion g t c → c ≤ b - s .count
+  -- becomes the block and its cost is added to the count; if it is block 2, the end is exit." Said by a sum, which no count cuts off.
+  pub enters : (s : Walk) (k t c : ℕ) → s .end ≡ going → chosen (g .next (s .place)) k ≡ some t → Completion g t c → c + s .count ≤ b
       → reply (monitor g b) s k ≡ record { answer = 0; after = record { place = t; count = s .count + g .cost t; end = endAt 2 t } }
   -- "Otherwise the end is diverted, and block and count stay."
   pub diverts : (s : Walk) (k t : ℕ) → s .end ≡ going → chosen (g .next (s .place)) k ≡ some t
-      → ((c : ℕ) → Completion g t c → c ≤ b - s .count → ⊥)
+      → ((c : ℕ) → Completion g t c → c + s .count ≤ b → ⊥)
       → reply (monitor g b) s k ≡ record { answer = 0; after = record { place = s .place; count = s .count; end = diverted } }
 
--- A KEPT PATH through a block: a path from the start to the exit that costs at most the budget b and enters the block v; it begins at block 1
+-- A KEPT PATH through a block: a path from the start to the exit that costs at most the budget b and enters the block v
 pub record Kept (g : Graph) (b v : ℕ) : Type 0 where
   pub choices : List ℕ
   pub blocks : List ℕ
   pub cost : ℕ
   pub path : Path g 1 choices blocks cost
   pub within : cost ≤ b
-  pub enters : List·Memᴰ v (1 ∷ blocks)
+  pub enters : List·Memᴰ v blocks
 
 -- A SETTING: a well-formed graph of some blocks, with budgets, the largest of which leaves block 1 a completion
 pub record Setting : Type 0 where

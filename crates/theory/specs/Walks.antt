@@ -4,11 +4,11 @@ use mathlib.Core.Path.{_≡_}
 use mathlib.Core.Bool.{Bool, true, false}
 use mathlib.Core.List.{List, [], _∷_}
 use mathlib.Core.Option.{Option, some, none}
-use Prim.Native.Nat.{ℕ, zero, suc, _+_, _-_, _≤_}
+use Prim.Native.Nat.{ℕ, zero, suc, _+_, _≤_}
 use lib.Dec.{eqb}
 use Rattle.base.specs.Lists.{chosen}
 use Rattle.base.specs.Copy.{Copy}
-use Rattle.theory.specs.Completions.{Graph, lowOf}
+use Rattle.theory.specs.Completions.{Graph, fits}
 use Rattle.theory.specs.Copies.{targets}
 use Rattle.theory.specs.Machines.{End, going, exit, diverted, Machine}
 
@@ -41,6 +41,11 @@ isExit going = false
 isExit exit = true
 isExit diverted = false
 
+unfoldable pub hasEnded : End → Bool
+hasEnded going = false
+hasEnded exit = true
+hasEnded diverted = true
+
 -- a walk in shape, on n places with the exit's at x, and with a count of at most m (document 01 answers 33 where it is not)
 pub record InShape (n x m : ℕ) (s : Walk) : Type 0 where
   pub place : (1 ≤ s .place) × (s .place ≤ n)
@@ -49,16 +54,16 @@ pub record InShape (n x m : ℕ) (s : Walk) : Type 0 where
 
 -- THE MONITOR of a graph at a budget b (document 01 calls it the watch)
 module _ (g : Graph) (b : ℕ) where
-  -- the state after an edge to t, by the largest completion cost of t at or below b less the count
-  unfoldable pub monitorTake : Walk → ℕ → Option ℕ → Walk
-  monitorTake s t none = record { place = s .place; count = s .count; end = diverted }
-  monitorTake s t (some a) = record { place = t; count = s .count + g .cost t; end = endAt 2 t }
+  -- the state after an edge to t, by whether t has a completion that costs, with the count, at most b
+  unfoldable pub monitorTake : Walk → ℕ → Bool → Walk
+  monitorTake s t false = record { place = s .place; count = s .count; end = diverted }
+  monitorTake s t true = record { place = t; count = s .count + g .cost t; end = endAt 2 t }
 
   unfoldable pub monitor : Machine Walk ℕ
   monitor = record {
     stands = λ s. s .end;
     targets = λ s. g .next (s .place);
-    take = λ s t. monitorTake s t (lowOf g t (b - s .count));
+    take = λ s t. monitorTake s t (fits g b (s .count) t);
   }
 
 -- THE WALK OVER COPIES, which no document names: the link between the monitor and the bounded walk
@@ -93,8 +98,8 @@ boundedTake x s (suc t) = record { place = suc t; count = suc (s .count); end = 
 unfoldable pub boundedWalk : Bounded → Machine Walk ℕ
 boundedWalk m = record { stands = λ s. s .end; targets = λ s. m .next (s .place); take = boundedTake (m .last) }
 
--- A PATH to the exit: the choices that lead along it, the blocks that they lead to, and what it costs, its first block included
+-- A PATH to the exit: the choices that lead along it, its blocks in order, the first included, and what they cost
 pub data Path (g : Graph) : ℕ → List ℕ → List ℕ → ℕ → Type 0 where
-  here : Path g 2 [] [] 0
+  here : Path g 2 [] (2 ∷ []) 0
   hop : {v t c n : ℕ} {k : ℕ} {ks bs : List ℕ} → chosen (g .next v) k ≡ some t → Path g t ks bs c → n ≡ g .cost v + c
-      → Path g v (k ∷ ks) (t ∷ bs) n
+      → Path g v (k ∷ ks) (v ∷ bs) n

@@ -9,9 +9,9 @@ use Rattle.base.specs.Checks.{outside}
 use Rattle.base.proofs.Truth.{not-both, or-l, or-r, or-false}
 use Rattle.base.proofs.Orders.{inside-of, not-outside}
 use Rattle.theory.specs.Machines.{End as Ends, going, exit, diverted}
-use Rattle.theory.specs.Walks.{Walk, endAt, isExit, InShape}
+use Rattle.theory.specs.Walks.{Walk, endAt, isExit, hasEnded, InShape}
 use Rattle.calls.specs.Moves.{outOfShape}
-use Rattle.walk.specs.Walks.{hasEnded, apart}
+use Rattle.walk.specs.Walks.{apart}
 
 -- the test of a walk that has ended
 pub ended-is : {e : Ends} {r : Bool} → r ≡ hasEnded e → r ≡ true → e ≡ going → ⊥

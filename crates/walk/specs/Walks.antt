@@ -20,12 +20,6 @@ walkOf w = record { place = w .place; count = w .count; end = endOf (w .end) }
 abbrev pub replyOf : Moved → Reply Walked
 replyOf m = record { answer = m .answer; after = walkOf (m .walk) }
 
--- a walk that has ended, at the exit or diverted
-unfoldable pub hasEnded : Ends → Bool
-hasEnded going = false
-hasEnded exit = true
-hasEnded diverted = true
-
 -- the end exit and the exit's place not together
 abbrev pub apart : Bool → Bool → Bool
 apart ended at = not (Bool·beq ended at)

@@ -4,9 +4,9 @@ ghost use mathlib.Core.Path.{_≡_};
 ghost use Prim.Native.Nat.{_<_};
 ghost use lib.Dec.{eqb};
 ghost use Rattle.theory.specs.Machines.{diverted};
-ghost use Rattle.theory.specs.Walks.{starting, isExit, endAt, mostMoves};
+ghost use Rattle.theory.specs.Walks.{starting, isExit, hasEnded, endAt, mostMoves};
 ghost use Rattle.calls.specs.Moves.{outOfShape};
-ghost use Rattle.walk.specs.Walks.{endOf, walkOf, hasEnded, apart};
+ghost use Rattle.walk.specs.Walks.{endOf, walkOf, apart};
 
 pub enum End {
     Going,

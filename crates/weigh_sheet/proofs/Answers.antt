@@ -1,19 +1,17 @@
 -- The answers of weighing, each with the work area after it.
--- Rests on base Truth and Orders, graph_check Orders, formats Accepted, calls Weigh and Area.
+-- Rests on base Orders, formats Accepted, calls Weigh and Area.
 use mathlib.Core.Path.{_≡_, refl, sym, ap, subst, _∙_}
-use mathlib.Core.Bool.{Bool, true, false, not}
+use mathlib.Core.Bool.{Bool, true, false}
 use mathlib.Core.List.{List, [], _∷_}
 use Prim.Native.Nat.{ℕ, suc, _+_, _*_, _≤_, _<_}
 use native.Mathlib.Omega.{arith}
 use native.Mathlib.Nat.{mul-le-mul}
 use native.Mathlib.Numerals.{add-one}
-use borrow.Author.Tests.{leb-true, lt-ltb, le-ltb}
-use lib.Dec.{eqb, leb}
+use borrow.Author.Tests.{lt-ltb, le-ltb}
 use lib.ListN.{length}
-use Rattle.base.specs.Lists.{all, isNone}
-use Rattle.base.specs.Checks.{Order, refused, over, outside}
-use Rattle.base.proofs.Truth.{and-e, or-l}
-use Rattle.base.proofs.Orders.{none-left, not-outside}
+use Rattle.base.specs.Lists.{any, all, isNone, from, member}
+use Rattle.base.specs.Checks.{refused, over}
+use Rattle.base.proofs.Orders.{none-left}
 use Rattle.theory.specs.Completions.{lowOf}
 use Rattle.formats.specs.Limits.{mostBudget}
 use Rattle.formats.specs.GraphSheet.{header, sheetOrder, sheetRefusal}
@@ -21,32 +19,11 @@ use Rattle.formats.proofs.Accepted.{accepted, blocks, budget-fits}
 use Rattle.calls.specs.SheetGraph.{graph}
 use Rattle.calls.specs.Area.{areaSize, filled, Table}
 use Rattle.calls.specs.Weigh.{Weighing, sheetArea, smallArea, nothingFits, weighOrder, beforeWeighing, areaAfter, weighed}
+use Rattle.calls.proofs.Weigh.{spared, sheet-early}
 use Rattle.calls.proofs.Area.{filled-table}
 use Rattle.tables.specs.Tables.{optionOf}
 use Rattle.tables.proofs.Options.{option-none, option-some}
 use Rattle.base.proofs.Orders.{pick, tested, append-stops, append-passes, over-is}
-
--- an order answers one of its numbers
-refused-most : {I : Type 0} (n : ℕ) (rs : Order I) (i : I) → all (λ r. leb (r .0) n) rs ≡ true → refused rs i ≤ n
-unfolding refused all
-refused-most n [] i e = omega arith
-refused-most {I} n (r ∷ rs) i e = go (r .1 i) (leb-true (r .0) n (p .0)) (refused-most n rs i (p .1))
-  where
-    p : (leb (r .0) n ≡ true) × (all (λ r. leb (r .0) n) rs ≡ true)
-    p = and-e (leb (r .0) n) (all (λ r. leb (r .0) n) rs) e
-
-    go : (b : Bool) → r .0 ≤ n → refused rs i ≤ n → pick b (r .0) (refused rs i) ≤ n
-    go true l m = l
-    go false l m = m
-
--- the sheet's numbers are 1 to 8, and checked before weighing
-sheet-most : (w : List ℕ) → sheetRefusal w ≤ 8
-unfolding sheetRefusal sheetOrder all
-sheet-most w = refused-most 8 sheetOrder w refl
-
-sheet-before : (r : ℕ) → 1 ≤ r → r ≤ 8 → beforeWeighing r ≡ true
-unfolding beforeWeighing
-sheet-before r p q = or-l (eqb r 21) (ap not (not-outside 1 8 r p q))
 
 module _ (w area : List ℕ) where
   abbrev i : Weighing
@@ -69,7 +46,7 @@ module _ (w area : List ℕ) where
   sheet-refused {r} q n =
       let o = over-is (λ i. i .sheet) sheetOrder i ∙ sym q in
       answers r (append-stops (over (λ i. i .sheet) sheetOrder) _ i (λ z. n (sym o ∙ z)) ∙ o)
-      (stays r (sheet-before r (omega arith) (omega (arith, sheet-most w))))
+      (stays r (ap beforeWeighing q ∙ sheet-early w (λ z. n (q ∙ z))))
 
   module _ (ok : sheetRefusal w ≡ 0) where
     answer : {s f : Bool} → smallArea i ≡ s → nothingFits w ≡ f → refused weighOrder i ≡ pick s 21 (pick f 9 0)
@@ -98,9 +75,9 @@ module _ (w area : List ℕ) where
           mul-le-mul {n₁ = n} {m₁ = b + 1} {n₂ = 128} {m₂ = 501} (omega arith) (omega arith)
 
       pub area-refused : length area < n * (b + 1) → Answers 21 area
-      unfolding smallArea beforeWeighing outside
+      unfolding smallArea any member from
       area-refused l =
-          answers 21 (answer (lt-ltb (length area) (sheetArea w) (omega (arith, asked))) refl) (stays 21 refl)
+          answers 21 (answer (lt-ltb (length area) (sheetArea w) (omega (arith, asked))) refl) (stays 21 (spared 21))
 
       -- room enough: the area is filled, and the look-up of block 1 at the budget decides
       module _ (room : n * (b + 1) ≤ length area) where
@@ -123,9 +100,9 @@ module _ (w area : List ℕ) where
           changes r t = rw (t, areaAfter) (f ∙ ap (λ (b : ℕ). filled (graph w) (header w .blocks) b area) q)
 
           pub nothing-fits : {x : ℕ} → optionOf x ≡ lowOf (graph w) 1 b → x ≡ 0 → Answers 9 after
-          unfolding nothingFits beforeWeighing outside isNone
-          nothing-fits {x} e z = answers 9 (passes (ap isNone (option-none x (e ∙ ap (lowOf (graph w) 1) q) z))) (changes 9 refl)
+          unfolding nothingFits any member from isNone
+          nothing-fits {x} e z = answers 9 (passes (ap isNone (option-none x (e ∙ ap (lowOf (graph w) 1) q) z))) (changes 9 (spared 9))
 
           pub something-fits : {x : ℕ} → optionOf x ≡ lowOf (graph w) 1 b → (x ≡ 0 → ⊥) → Answers 0 after
-          unfolding nothingFits beforeWeighing outside isNone
-          something-fits {x} e n = answers 0 (passes (ap isNone (option-some x (e ∙ ap (lowOf (graph w) 1) q) n))) (changes 0 refl)
+          unfolding nothingFits any member from isNone
+          something-fits {x} e n = answers 0 (passes (ap isNone (option-some x (e ∙ ap (lowOf (graph w) 1) q) n))) (changes 0 (spared 0))

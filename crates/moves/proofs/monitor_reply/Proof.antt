@@ -79,7 +79,7 @@ returns-4 c =
     let z = start u in
     enters _ (z .pre .0) (z .args .b) (walkOf (z .args .w)) (z .args .choice) (u .before .target-by .ensures .0) (u .if2 .left) _
     (c .before .before .before .before .look-up .ensures) (goes-on (u .before .before .before)) (c .before .before .if3 .left)
-    (c .before .cost-of .ensures .0) (c .enter .ensures)
+    (z .pre .1 .1 .1 .count) (c .before .cost-of .ensures .0) (c .enter .ensures)
 
 pub monitor-reply-spec : {M : Type 1} → statement M
 monitor-reply-spec =

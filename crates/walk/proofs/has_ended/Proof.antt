@@ -1,7 +1,8 @@
 -- `walk::has_ended` meets its contract: one case of the end for each arm.
 -- Rests on specs Walks.
 use borrow.Author.Needs.{needs}
-use Rattle.walk.specs.Walks.{endOf, hasEnded}
+use Rattle.theory.specs.Walks.{hasEnded}
+use Rattle.walk.specs.Walks.{endOf}
 use Rattle.walk.proofs.has_ended.Statement.{statement}
 use Rattle.walk.proofs.has_ended.Tie as tie
 

@@ -1,5 +1,5 @@
--- `lent::monitored_move_in_place` meets its contract: a walk of its MIR, by hand, as that of `bounded_move_in_place`, with the work area
--- given up to `monitored_move` at its own lifetime. Rests on moves, Held. Assumes nothing.
+-- `lent::guarded_move_in_place` meets its contract: a walk of its MIR, by hand, as that of `bounded_move_in_place`, with the work area
+-- given up to `guarded_move` at its own lifetime. Rests on moves, Held. Assumes nothing.
 use mathlib.Core.Path.{_≡_, refl, ap}
 use mathlib.Core.List.{List, [], _∷_}
 use Prim.Native.Nat.{ℕ, _<_, _^_}
@@ -43,22 +43,22 @@ use denote.Triple.Table.{entered, cited}
 use denote.Triple.Walked.{Stays, stay-none-slice, gave-slice, stay-ref, stay-none, walkOf, Walks, ends-at, walked, walk-meets}
 use denote.Triple.Walked.{AllGo, goes-none-slice, goes-gave-slice, goes-ref, goes-none}
 use denote.Exit.{yes}
-use Rattle.calls.specs.Moves.{Monitored, monitoredMove}
+use Rattle.calls.specs.Moves.{Guarded, guardedMove}
 use Rattle.walk.specs.declared.Walk.{Walk}
 use Rattle.walk.specs.declared.Moved.{Moved}
 use Rattle.walk.specs.Walks.{walkOf as stands}
 use Rattle.walk.proofs.Walk as T
 use Rattle.walk.proofs.Moved as R
 use Rattle.walk.proofs.Moved.Laws as R′
-use Rattle.moves.proofs.monitored_move as by-value
-use Rattle.moves.proofs.monitored_move.Symbol as by-value-def
-use Rattle.moves.proofs.monitored_move.Symbol.{name as #moves·monitored-move}
-use Rattle.moves.proofs.monitored_move.Met as by-value-thm
+use Rattle.moves.proofs.guarded_move as by-value
+use Rattle.moves.proofs.guarded_move.Symbol as by-value-def
+use Rattle.moves.proofs.guarded_move.Symbol.{name as #moves·guarded-move}
+use Rattle.moves.proofs.guarded_move.Met as by-value-thm
 use Rattle.lent.proofs.Held.{vals, answer-fits, walk-shown, walk-typed, result-typed, word, value, opens-walk, closes-walk, says3}
-use Rattle.lent.proofs.monitored_move_in_place.Key.{name as #lent·monitored-move-in-place}
-use Rattle.lent.proofs.monitored_move_in_place as in-place
-use Rattle.lent.proofs.monitored_move_in_place.Statement as stated
-use Rattle.lent.proofs.monitored_move_in_place.Code as code
+use Rattle.lent.proofs.guarded_move_in_place.Key.{name as #lent·guarded-move-in-place}
+use Rattle.lent.proofs.guarded_move_in_place as in-place
+use Rattle.lent.proofs.guarded_move_in_place.Statement as stated
+use Rattle.lent.proofs.guarded_move_in_place.Code as code
 
 abbrev Arg : Type 0
 Arg = RefT (List ℕ) × (RefT (List ℕ) × (RefT Walk × (ℕ × Unit {0})))
@@ -103,15 +103,15 @@ module _ {M : Type 1} (𝓤 : URA M) (H : Heap 𝓤) (A : Atoms 𝓤) (W : Given
       walkOf 𝓤 H A in-place.ended stayed (in-place.clauses 𝓤 H A at-mem run) .post
       (((κ₀, (κ₁, (κ₂, tt))), (q₀, (q₁, (q₂, tt))), tt, x, at), tt)
 
-  -- what `monitored_move` is passed, and what it says of its result and of the area's last content
+  -- what `guarded_move` is passed, and what it says of its result and of the area's last content
   abbrev given-to : RefT (List ℕ) × (RefT (List ℕ) × (Walk × (ℕ × Unit {0})))
   given-to = (s, (y, (h, (n, tt))))
 
   abbrev to : ByValue 𝓤 H A at-mem run .Ghost
   to = (((κ₀, (κ₁, tt)), (q₀, (q₁, tt)), tt, given-to, (sv ∷ [], (yv ∷ [], (vals h, (vint w16 n ∷ [], tt))))), tt)
 
-  abbrev moved : Monitored
-  moved = monitoredMove (s .now) (stands h) (record { choice = n; area = ys })
+  abbrev moved : Guarded
+  moved = guardedMove (s .now) (stands h) (record { choice = n; area = ys })
 
   abbrev Tokens : Item 𝓤
   Tokens = ‵ (flft κ₀ q₀) ⊛ ‵ (flft κ₁ q₁) ⊛ ‵ ftrue
@@ -145,7 +145,7 @@ module _ {M : Type 1} (𝓤 : URA M) (H : Heap 𝓤) (A : Atoms 𝓤) (W : Given
       word ! (r .answer) fits $ move ! (1 ∷ 0 ∷ []) $ done !
 
   module _ (C : Calls 𝓤 H) (Λ : Loops 𝓤 H) (fm : FmC 𝓤 H (W .laws) C)
-      (known : Triple 𝓤 (C #moves·monitored-move) (ByValue 𝓤 H A at-mem run)) where
+      (known : Triple 𝓤 (C #moves·guarded-move) (ByValue 𝓤 H A at-mem run)) where
     walk : Is (ShrSlice (named 0) κ₀ u16) s (sv ∷ []) → Room u8 (length ys)
         → ent 𝓤 (onEntry 𝓤 H A in-place.signature (κ₀, (κ₁, (κ₂, tt))) (q₀, (q₁, (q₂, tt))) x at)
         (WpFn 𝓤 H C Λ code.function (sv ∷ yv ∷ vptr b o ∷ vint w16 n ∷ []) Post)
@@ -173,7 +173,7 @@ module _ {M : Type 1} (𝓤 : URA M) (H : Heap 𝓤) (A : Atoms 𝓤) (W : Given
         (init ! 6 refl (tt, (tt, (record { fits = room .0 }, tt)))) $
         assigns ! (of-opd ! (load ! (from ! (hop ! (look ! 14 refl) (stop !))) (look ! 0 refl))) (from ! (stop !))
         (init ! 4 refl (walk-typed 𝓤 H A W h was)) $
-        -- what `monitored_move` asks
+        -- what `guarded_move` asks
         nothing ! $ word ! n n-fits $ fjoin ! $ value ! h was $ fjoin ! $ move ! (26 ∷ 0 ∷ []) $ fjoin ! $
         move ! (26 ∷ 0 ∷ []) $ fjoin ! $ move ! (24 ∷ 23 ∷ []) $ join ! $ move ! (24 ∷ 0 ∷ []) $ join ! $
         use2 W (raw (ByValue 𝓤 H A at-mem run .pre to)) goes-to $
@@ -212,7 +212,7 @@ module _ {M : Type 1} (𝓤 : URA M) (H : Heap 𝓤) (A : Atoms 𝓤) (W : Given
 
 module _ {M : Type 1} (𝓤 : URA M) (H : Heap 𝓤) (A : Atoms 𝓤) (W : Given 𝓤 H A) (at-mem : Memory → SProp 𝓤) (run : Routine → Fun 𝓤) where
   in-place-walks : (C : Calls 𝓤 H) (Λ : Loops 𝓤 H) → FmC 𝓤 H (W .laws) C
-      → Triple 𝓤 (C #moves·monitored-move) (ByValue 𝓤 H A at-mem run)
+      → Triple 𝓤 (C #moves·guarded-move) (ByValue 𝓤 H A at-mem run)
       → Walks 𝓤 H A in-place.ended stayed (WpFn 𝓤 H C Λ code.function) (in-place.clauses 𝓤 H A at-mem run)
   in-place-walks C Λ fm known =
       walked 𝓤 H A in-place.ended stayed (in-place.clauses 𝓤 H A at-mem run) (WpFn 𝓤 H C Λ code.function)
@@ -240,18 +240,18 @@ module _ {M : Type 1} (𝓤 : URA M) (H : Heap 𝓤) (A : Atoms 𝓤) (W : Given
   )
 
 in-place-meets : {M : Type 1} (𝓤 : URA M) (H : Heap 𝓤) (A : Atoms 𝓤) (W : Given 𝓤 H A) (at-mem : Memory → SProp 𝓤)
-    (run : Routine → Fun 𝓤) (𝓣 : Tables 𝓤 H) → Triple 𝓤 (𝓣 .C #moves·monitored-move) (ByValue 𝓤 H A at-mem run)
+    (run : Routine → Fun 𝓤) (𝓣 : Tables 𝓤 H) → Triple 𝓤 (𝓣 .C #moves·guarded-move) (ByValue 𝓤 H A at-mem run)
     → Meets 𝓤 H A in-place.signature (WpFn 𝓤 H (𝓣 .C) (𝓣 .Λ) code.function) (in-place.spec 𝓤 H A at-mem run)
 in-place-meets 𝓤 H A W at-mem run 𝓣 known =
     walk-meets 𝓤 H A in-place.ended stayed W (goes 𝓤 H A W at-mem run) (in-place.clauses 𝓤 H A at-mem run)
     (WpFn 𝓤 H (𝓣 .C) (𝓣 .Λ) code.function) (WpFn-mono 𝓤 H (W .laws) 𝓣 code.function)
     (in-place-walks 𝓤 H A W at-mem run (𝓣 .C) (𝓣 .Λ) (fmOf 𝓤 H (W .laws) 𝓣) known)
 
-pub monitored-move-in-place-spec : {M : Type 1} → stated.statement M
+pub guarded-move-in-place-spec : {M : Type 1} → stated.statement M
 unfolding code.routine tablesOf
-monitored-move-in-place-spec 𝓤 H 𝓜 𝓖 𝓡 =
+guarded-move-in-place-spec 𝓤 H 𝓜 𝓖 𝓡 =
     entered 𝓤 H (tripleOf 𝓤 H (𝓖 .A) in-place.signature (in-place.spec 𝓤 H (𝓖 .A) (𝓜 .mem) (𝓡 .run)))
-    (tables 𝓤 H 𝓜 𝓡 code.env .C) (tables 𝓤 H 𝓜 𝓡 code.env .Λ) #lent·monitored-move-in-place code.function (code.unfolded 𝓤 H 𝓜 𝓡)
+    (tables 𝓤 H 𝓜 𝓡 code.env .C) (tables 𝓤 H 𝓜 𝓡 code.env .Λ) #lent·guarded-move-in-place code.function (code.unfolded 𝓤 H 𝓜 𝓡)
     (in-place-meets 𝓤 H (𝓖 .A) (givenOf 𝓤 H 𝓜 𝓖) (𝓜 .mem) (𝓡 .run) (tablesOf 𝓤 H 𝓜 (tables 𝓤 H 𝓜 𝓡 code.env))
-    (cited 𝓤 H (ByValue 𝓤 H (𝓖 .A) (𝓜 .mem) (𝓡 .run)) 𝓜 𝓡 code.env #moves·monitored-move by-value-def.routine
-    code.calls-moves·monitored-move (by-value-thm.met 𝓤 H 𝓜 𝓖 𝓡)))
+    (cited 𝓤 H (ByValue 𝓤 H (𝓖 .A) (𝓜 .mem) (𝓡 .run)) 𝓜 𝓡 code.env #moves·guarded-move by-value-def.routine
+    code.calls-moves·guarded-move (by-value-thm.met 𝓤 H 𝓜 𝓖 𝓡)))

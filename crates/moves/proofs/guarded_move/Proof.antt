@@ -1,4 +1,4 @@
--- `moves::monitored_move` meets its contract: the sheet is refused, the walk is out of shape, or the monitor replies.
+-- `moves::guarded_move` meets its contract: the sheet is refused, the walk is out of shape, or the monitor replies.
 -- Rests on graph_words Formed, formats Accepted, Answers.
 use mathlib.Core.Path.{_≡_}
 use native.Mathlib.Omega.{arith}
@@ -8,8 +8,8 @@ use Rattle.formats.proofs.Accepted.{accepted, budget-fits}
 use Rattle.graph_words.proofs.Formed.{formed-of}
 use Rattle.walk.specs.Walks.{walkOf, replyOf}
 use Rattle.moves.proofs.Answers.{weigh-refused, sheet-passes, area-table, shape-refused, in-shape, monitor-replies}
-use Rattle.moves.proofs.monitored_move.Statement.{statement}
-use Rattle.moves.proofs.monitored_move.Tie as tie
+use Rattle.moves.proofs.guarded_move.Statement.{statement}
+use Rattle.moves.proofs.guarded_move.Tie as tie
 
 returns : tie.Need-returns
 returns c =
@@ -69,8 +69,8 @@ returns-3 c =
     (z .budget .ensures .0) (c .before .before .before .out-of-shape .ensures) (c .before .before .if2 .left)
     (replyOf (c .monitor-reply .result)) (c .monitor-reply .ensures)
 
-pub monitored-move-spec : {M : Type 1} → statement M
-monitored-move-spec =
+pub guarded-move-spec : {M : Type 1} → statement M
+guarded-move-spec =
     tie.close
     (tie.spec (λ c κs. search needs) (λ c. search needs) returns blocks-requires budget-requires (λ c κs. search needs) (λ c. search needs)
     returns-2 monitor-reply-requires (λ c. search needs) returns-3)

@@ -1,0 +1,107 @@
+-- What 9 and the work area say of a sheet's completions: proved of every sheet that passes 1 to 8.
+-- Rests on theory Completions, formats Accepted, SheetLaws, Area, Weigh, specs Filled.
+use mathlib.Core.Path.{_≡_, refl, sym, ap, _∙_}
+use mathlib.Core.Logic.{_↔_}
+use mathlib.Core.Bool.{Bool, true, false}
+use mathlib.Core.List.{List, [], _++_, append-nil}
+use mathlib.Core.Option.{Option, some, none}
+use Prim.Native.Nat.{ℕ, _+_, _-_, _≤_}
+use native.Mathlib.Omega.{arith}
+use lib.ListN.{length, getD}
+use Rattle.base.specs.Lists.{isNone}
+use Rattle.base.specs.Checks.{Order, refused, over}
+use Rattle.base.proofs.Truth.{not-both, else-false}
+use Rattle.base.proofs.Orders.{over-is}
+use Rattle.theory.specs.Completions.{Graph, Completion, NoLow, completes, lowOf}
+use Rattle.theory.specs.Setting.{WellFormed}
+use Rattle.theory.specs.Walks.{Walk}
+use Rattle.theory.proofs.Completions.{completes-sound, completes-complete, low-none, no-low}
+use Rattle.formats.specs.GraphSheet.{header, sheetRefusal}
+use Rattle.formats.proofs.Accepted.{accepted}
+use Rattle.calls.specs.SheetGraph.{graph}
+use Rattle.calls.specs.Area.{cellOf, byteOf, filled}
+use Rattle.calls.specs.Weigh.{Weighing, sheetArea, nothingFits, weighOrder, beforeWeighing, areaAfter, weighed}
+use Rattle.calls.specs.Build.{Lent, buildOrder, build}
+use Rattle.calls.specs.Moves.{Move, GuardedInput, moved, guardedOrder, guardedReply, guardedMove}
+use Rattle.calls.specs.Filled.{NineIsExact, Holds, WeighingFills, BuildFills, MoveFills}
+use Rattle.calls.proofs.SheetLaws.{well-formed}
+use Rattle.calls.proofs.Weigh.{weighs-late}
+use Rattle.calls.proofs.Area.{cell-filled, rest-untouched, filled-length}
+
+-- a look-up that finds nothing
+none-of : (o : Option ℕ) → isNone o ≡ true → o ≡ none
+unfolding isNone
+none-of none e = refl
+none-of (some a) e = absurd (not-both refl (sym e))
+
+pub nine-is-exact : NineIsExact
+unfolding nothingFits isNone
+nine-is-exact w ok =
+    let L = well-formed w (accepted w ok) in
+    let b = header w .budget in
+    (λ e. low-none (graph w) L 1 b (none-of (lowOf (graph w) 1 b) e), λ n. ap isNone (no-low (graph w) L n))
+
+-- a byte is that of a completion, or of none
+module _ (g : Graph) (L : WellFormed g) (v c : ℕ) {x : ℕ} (e : x ≡ byteOf (completes g v c)) where
+  set-is : (x ≡ 1) ↔ Completion g v c
+  unfolding byteOf
+  set-is = (λ p. go (completes g v c) refl (sym e ∙ p), λ d. e ∙ ap byteOf (completes-complete g L d))
+    where
+      go : (b : Bool) → completes g v c ≡ b → byteOf b ≡ 1 → Completion g v c
+      go true q p = completes-sound g L v c q
+      go false q p = absurd (omega arith)
+
+  clear-is : (x ≡ 0) ↔ (Completion g v c → ⊥)
+  unfolding byteOf
+  clear-is = (
+    λ p d. absurd (let z : _≡_ {A = ℕ} 0 1 = sym p ∙ set-is .1 d in omega arith),
+    λ n. e ∙ ap byteOf (else-false (completes g v c) (λ q. n (completes-sound g L v c q))),
+  )
+
+module _ (w area : List ℕ) (ok : sheetRefusal w ≡ 0) (room : sheetArea w ≤ length area) where
+  abbrev n : ℕ
+  n = header w .blocks
+
+  abbrev b : ℕ
+  b = header w .budget
+
+  abbrev L : WellFormed (graph w)
+  L = well-formed w (accepted w ok)
+
+  filled-holds : Holds w area (filled (graph w) n b area)
+  unfolding sheetArea
+  filled-holds =
+      record {
+        set = λ v c p q l. set-is (graph w) L v c (cell-filled (graph w) n b area room v c p q l);
+        clear = λ v c p q l. clear-is (graph w) L v c (cell-filled (graph w) n b area room v c p q l);
+        rest = λ i l.
+            let e : sheetArea w + (i - sheetArea w) ≡ i = omega arith in
+            rw e at (rest-untouched (graph w) n b area room (i - sheetArea w));
+        size = filled-length (graph w) n b area room;
+      }
+
+-- an answer of an order that begins with weighing's, and the area after it
+holds-after : {J : Type 0} (f : J → Weighing) (qs : Order J) (j : J) {a : ℕ} → a ≡ refused (over f weighOrder ++ qs) j
+    → beforeWeighing a ≡ false
+    → Holds (f j .sheet) (f j .area) (areaAfter (f j .sheet) a (f j .area))
+unfolding areaAfter
+holds-after f qs j e late =
+    let p = weighs-late f qs j (sym (ap beforeWeighing e) ∙ late) in
+    rw (late, areaAfter) (filled-holds (f j .sheet) (f j .area) (p .0) (p .1))
+
+pub weighing-fills : WeighingFills
+unfolding weighed
+weighing-fills i late =
+    let e : refused weighOrder i ≡ refused (over (λ i. i) weighOrder ++ []) i
+    = sym (over-is (λ i. i) weighOrder i) ∙ sym (ap (λ (o : Order Weighing). refused o i) (append-nil (over (λ i. i) weighOrder))) in
+    holds-after (λ i. i) [] i e late
+
+pub build-fills : BuildFills
+unfolding build buildOrder
+build-fills i late = holds-after (λ (i : Lent). record { sheet = i .sheet; area = i .area }) _ i refl late
+
+pub move-fills : MoveFills
+unfolding guardedMove guardedReply guardedOrder moved
+move-fills w s m late =
+    holds-after (λ (i : GuardedInput). record { sheet = i .sheet; area = i .area }) _
+    (record { sheet = w; area = m .area; walk = s; choice = m .choice }) refl late

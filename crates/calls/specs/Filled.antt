@@ -1,0 +1,42 @@
+-- WHAT 9 AND THE WORK AREA SAY of a sheet's completions (document 01, behind the tables of refusals), over the inductive completions.
+-- Rests on theory Completions, SheetGraph, Area, Weigh, Build, Moves.
+use mathlib.Core.Path.{_≡_}
+use mathlib.Core.Logic.{_↔_}
+use mathlib.Core.Bool.{true, false}
+use mathlib.Core.List.{List}
+use Prim.Native.Nat.{ℕ, _≤_}
+use lib.ListN.{length, getD}
+use Rattle.theory.specs.Completions.{Completion, NoLow}
+use Rattle.theory.specs.Walks.{Walk}
+use Rattle.formats.specs.GraphSheet.{header, sheetRefusal}
+use Rattle.calls.specs.SheetGraph.{graph}
+use Rattle.calls.specs.Area.{cellOf}
+use Rattle.calls.specs.Weigh.{Weighing, sheetArea, nothingFits, beforeWeighing, weighed}
+use Rattle.calls.specs.Build.{Lent, build}
+use Rattle.calls.specs.Moves.{Move, guardedMove}
+
+-- "block 1 has no completion cost at or below B", of a sheet that passes 1 to 8
+abbrev pub NineIsExact : Type 0
+NineIsExact = (w : List ℕ) → sheetRefusal w ≡ 0 → (nothingFits w ≡ true) ↔ NoLow (graph w) 1 (header w .budget)
+
+-- an area before and after a call on the sheet w
+pub record Holds (w old new : List ℕ) : Type 0 where
+  -- "its byte at (block − 1) × (B + 1) + cost is 1 where that block has that completion cost, else 0"
+  pub set : (v c : ℕ) → 1 ≤ v → v ≤ header w .blocks → c ≤ header w .budget
+      → (getD new (cellOf (header w .budget) v c) 0 ≡ 1) ↔ Completion (graph w) v c
+  pub clear : (v c : ℕ) → 1 ≤ v → v ≤ header w .blocks → c ≤ header w .budget
+      → (getD new (cellOf (header w .budget) v c) 0 ≡ 0) ↔ (Completion (graph w) v c → ⊥)
+  -- "the rest is untouched"
+  pub rest : (i : ℕ) → sheetArea w ≤ i → getD new i 0 ≡ getD old i 0
+  pub size : length new ≡ length old
+
+-- "After any other answer of a building or watched call", and so of weighing alone
+abbrev pub WeighingFills : Type 0
+WeighingFills = (i : Weighing) → beforeWeighing (weighed i .answer) ≡ false → Holds (i .sheet) (i .area) (weighed i .area)
+
+abbrev pub BuildFills : Type 0
+BuildFills = (i : Lent) → beforeWeighing (build i .answer) ≡ false → Holds (i .sheet) (i .area) (build i .area)
+
+abbrev pub MoveFills : Type 0
+MoveFills =
+    (w : List ℕ) (s : Walk) (m : Move) → beforeWeighing (guardedMove w s m .answer) ≡ false → Holds w (m .area) (guardedMove w s m .area)
