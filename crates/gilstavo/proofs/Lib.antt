@@ -1,4 +1,6 @@
--- A walk as three words, and what is lent.
--- Rests on specs WalkWords and Lent.
--- read: stray, its-walk, last-end; at exit: refused-lent, accepted-lent
+-- A walk as three words: read and written, and demand 3 for the calls on them.
+-- Rests on calls Forms, specs WalkWords and Steps.
+-- read: stray, its-walk, last-end; reading and writing are inverse: walk-back, words-back; steps: step-refused, step-accepted
 pub mod Words
+-- demand 3 on words: words-keep-demand3
+pub mod Demand

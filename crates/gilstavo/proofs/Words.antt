@@ -1,14 +1,16 @@
--- Three words and the walk that they stand for, and what is lent at exit.
--- Rests on specs WalkWords and Lent.
-use mathlib.Core.Path.{_≡_, refl}
-use mathlib.Core.List.{List}
+-- Three words and the walk that they stand for: read, written, each the inverse of the other, and the words after a step.
+-- Rests on base Orders, specs WalkWords and Steps.
+use mathlib.Core.Path.{_≡_, refl, sym, ap, _∙_}
+use mathlib.Core.List.{List, [], _∷_, map}
 use Prim.Native.Nat.{ℕ, zero, suc, _≤_, _<_}
+use native.Mathlib.Omega.{arith}
 use borrow.Author.Tests.{lt-ltb, le-ltb}
 use lib.ListN.{getD}
-use Rattle.theory.specs.Machines.{diverted}
+use Rattle.base.proofs.Orders.{refused-lent, accepted-lent}
+use Rattle.theory.specs.Machines.{End, going, exit, diverted, Reply}
 use Rattle.theory.specs.Walks.{Walk}
-use Rattle.gilstavo.specs.WalkWords.{endIn, nowhere, walkIn}
-use Rattle.gilstavo.specs.Lent.{lentAfter}
+use Rattle.gilstavo.specs.WalkWords.{endIn, endWord, nowhere, walkIn, walkWords}
+use Rattle.gilstavo.specs.Steps.{inWords}
 
 pub last-end : (e : ℕ) → (e ≡ 0 → ⊥) → (e ≡ 1 → ⊥) → diverted ≡ endIn e
 unfolding endIn
@@ -27,13 +29,49 @@ module _ (row : List ℕ) where
   its-walk w l p c e =
       rw (le-ltb 2 (getD row 2 0) l, walkIn) (λ i. record { place = p i; count = c i; end = e i })
 
--- what is lent, at exit
-module _ {A : Type 0} (old new : A) where
-  pub refused-lent : (n : ℕ) → (n ≡ 0 → ⊥) → old ≡ lentAfter n old new
-  unfolding lentAfter
-  refused-lent zero z = absurd (z refl)
-  refused-lent (suc n) z = refl
+-- READING AND WRITING are inverse to each other
+end-back : (e : End) → endIn (endWord e) ≡ e
+unfolding endIn endWord
+end-back going = refl
+end-back exit = refl
+end-back diverted = refl
 
-  pub accepted-lent : {x : A} → x ≡ new → x ≡ lentAfter 0 old new
-  unfolding lentAfter
-  accepted-lent e = e
+end-word-most : (e : End) → endWord e ≤ 2
+unfolding endWord
+end-word-most going = omega arith
+end-word-most exit = omega arith
+end-word-most diverted = omega arith
+
+pub walk-back : (s : Walk) → walkIn (walkWords s) ≡ s
+walk-back s = sym (its-walk (walkWords s) s (end-word-most (s .end)) refl refl (sym (end-back (s .end))))
+
+word-back : (n : ℕ) → n ≤ 2 → endWord (endIn n) ≡ n
+unfolding endIn endWord
+word-back zero l = refl
+word-back (suc zero) l = refl
+word-back (suc (suc zero)) l = refl
+word-back (suc (suc (suc n))) l = absurd (omega arith)
+
+pub words-back : (p c e : ℕ) → e ≤ 2 → walkWords (walkIn (p ∷ c ∷ e ∷ [])) ≡ p ∷ c ∷ e ∷ []
+words-back p c e l =
+    ap walkWords (sym (its-walk (p ∷ c ∷ e ∷ []) (record { place = p; count = c; end = endIn e }) l refl refl refl))
+    ∙ ap (λ (n : ℕ). p ∷ c ∷ n ∷ []) (word-back e l)
+
+-- each end's word
+pub end-words : map endWord (going ∷ exit ∷ diverted ∷ []) ≡ 0 ∷ 1 ∷ 2 ∷ []
+unfolding endWord
+end-words = refl
+
+-- A STEP, as the code makes it
+module _ (row : List ℕ) (r : Reply Walk) {a : ℕ} (e : a ≡ r .answer) where
+  pub step-answer : a ≡ inWords row r .answer
+  unfolding inWords
+  step-answer = e
+
+  pub step-refused : (a ≡ 0 → ⊥) → row ≡ inWords row r .after
+  unfolding inWords
+  step-refused n = refused-lent row (walkWords (r .after)) (r .answer) (λ z. n (e ∙ z))
+
+  pub step-accepted : a ≡ 0 → {new : List ℕ} {s : Walk} → new ≡ walkWords s → s ≡ r .after → new ≡ inWords row r .after
+  unfolding inWords
+  step-accepted z p q = rw (← e, z) (accepted-lent row (walkWords (r .after)) (p ∙ ap walkWords q))

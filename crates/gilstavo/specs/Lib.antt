@@ -1,6 +1,6 @@
 -- What crosses the exported boundary in another form than the calls have it.
--- Rests on theory.
+-- Rests on base Checks, theory Machines and Walks, calls Moves and Demand.
 -- a walk as three words: walkIn, walkWords
 pub mod WalkWords
--- what is lent, at exit: lentAfter
-pub mod Lent
+-- the moves on three words, and demand 3 for them: guardedStep, boundedStep, onWords
+pub mod Steps

@@ -1,17 +1,18 @@
 // The public calls on numbers and slices, for C and Rust: a slice crosses as a pointer and a length, a walk as a row of three words.
-// Rests on graph_check, weigh_sheet, build, bounded_check, reader, moves; the promises are theirs, and specs WalkWords for the rows of a walk.
+// Rests on graph_check, weigh_sheet, build, bounded_check, reader, moves; the promises are theirs, and specs WalkWords and Steps for a walk's words.
 ghost use mathlib.Core.Path.{_≡_};
 ghost use lib.ListN.{length, getD};
 ghost use Rattle.formats.specs.GraphSheet.{sheetRefusal, countSuccessors};
 ghost use Rattle.formats.specs.Rule11.{boundedRefusal, handOut};
 ghost use Rattle.theory.specs.Walks.{starting};
-ghost use Rattle.calls.specs.Moves.{guardedMove, boundedMove};
+ghost use Rattle.base.specs.Checks.{lentAfter};
+ghost use Rattle.calls.specs.Moves.{guardedMove};
 ghost use Rattle.calls.specs.Weigh.{weighed};
 ghost use Rattle.build.specs.Within.{built};
 ghost use Rattle.reader.specs.Placed.{Placed};
 ghost use Rattle.walk.specs.Walks.{endOf, walkOf};
 ghost use Rattle.gilstavo.specs.WalkWords.{endIn, endWord, walkIn, walkWords};
-ghost use Rattle.gilstavo.specs.Lent.{lentAfter};
+ghost use Rattle.gilstavo.specs.Steps.{guardedStep, boundedStep};
 use bounded_check::check_bounded;
 use build::build;
 use graph_check::check_graph;
@@ -161,28 +162,26 @@ pub extern "C" fn gilstavo_guarded_move(
     walk: &mut [u16; 3],
     choice: u16,
 ) -> u16
-    ensures { λ r. ⌜ r
-        ≡ guardedMove (now (sheet .entry)) (walkIn (now (walk .entry))) (record { choice = choice; area = now (area .entry) }) .answer ⌝ }
-    ensures { λ r. ⌜ now (walk .exit) ≡ lentAfter r (now (walk .entry))
-        (walkWords (guardedMove (now (sheet .entry)) (walkIn (now (walk .entry))) (record { choice = choice; area = now (area .entry) }) .walk)) ⌝ }
+    ensures { λ r. ⌜ r ≡ guardedStep (now (sheet .entry)) (now (walk .entry)) (record { choice = choice; area = now (area .entry) }) .answer ⌝ }
+    ensures { λ _. ⌜ now (walk .exit)
+        ≡ guardedStep (now (sheet .entry)) (now (walk .entry)) (record { choice = choice; area = now (area .entry) }) .after ⌝ }
     ensures { λ _. ⌜ now (area .exit)
         ≡ guardedMove (now (sheet .entry)) (walkIn (now (walk .entry))) (record { choice = choice; area = now (area .entry) }) .area ⌝ }
 {
     let w = walk_of(walk);
-    let watched = guarded_move(sheet, area, w, choice);
-    if watched.answer != 0 {
-        return watched.answer;
+    let g = guarded_move(sheet, area, w, choice);
+    if g.answer != 0 {
+        return g.answer;
     }
-    put_walk(walk, watched.walk);
+    put_walk(walk, g.walk);
     0
 }
 
 // 11, 33, 32, 31, else 0; a bounded move of a walk that is changed in place.
 #[no_mangle]
 pub extern "C" fn gilstavo_bounded_move(sheet: &[u16], walk: &mut [u16; 3], choice: u16) -> u16
-    ensures { λ r. ⌜ r ≡ boundedMove (now (sheet .entry)) (walkIn (now (walk .entry))) choice .answer ⌝ }
-    ensures { λ r. ⌜ now (walk .exit) ≡ lentAfter r (now (walk .entry))
-        (walkWords (boundedMove (now (sheet .entry)) (walkIn (now (walk .entry))) choice .after)) ⌝ }
+    ensures { λ r. ⌜ r ≡ boundedStep (now (sheet .entry)) (now (walk .entry)) choice .answer ⌝ }
+    ensures { λ _. ⌜ now (walk .exit) ≡ boundedStep (now (sheet .entry)) (now (walk .entry)) choice .after ⌝ }
 {
     let w = walk_of(walk);
     let m = bounded_move(sheet, w, choice);

@@ -6,7 +6,7 @@ ghost use lib.ListN.{length};
 ghost use Rattle.formats.specs.Limits.{wordLimit};
 ghost use Rattle.formats.specs.BoundedSheet.{heading, chainAt, partStart, edgePart};
 ghost use Rattle.formats.specs.Rule11.{boundedRefusal, handOut};
-ghost use Rattle.reader.specs.Placed.{Placed};
+ghost use Rattle.reader.specs.Placed.{Placed, wordsOn};
 use bounded_check::check_bounded;
 use bounded_words::copies;
 use bounded_words::edges;
@@ -96,11 +96,15 @@ pub fn edge_words_place(s: &[u16], i: u16) -> Place
     place_of(s, i as usize)
 }
 
-// The edge records of copy i; empty for the exit and under a refusal.
-pub fn edge_words(s: &[u16], i: u16) -> &[u16]
+// The edge records of copy i, a part of the caller's sheet; empty for the exit and under a refusal, which the answer tells apart.
+// Two copies may have equal words, so the part's place is promised too: the word of the sheet with which it begins.
+pub fn edge_words<'a>(s: &'a [u16], i: u16, answer: &mut u16) -> &'a [u16]
+    ensures { λ _. ⌜ now (answer .exit) ≡ handOut (now (s .entry)) i .answer ⌝ }
     ensures { λ r. ⌜ now r ≡ handOut (now (s .entry)) i .words ⌝ }
+    ensures { λ r. ⌜ r .ptr ≡ wordsOn (s .entry .ptr) (handOut (now (s .entry)) i .start) ⌝ }
 {
     let p = edge_words_place(s, i);
+    *answer = p.answer;
     let start = p.start;
     let end = start + p.size;
     &s[start..end]

@@ -1,25 +1,28 @@
 -- A bounded move of the walk that the words stand for.
 -- Rests on moves `bounded_move`, Words.
-use mathlib.Core.Path.{sym, ap, _∙_}
+use mathlib.Core.Path.{sym, _∙_}
 use borrow.Author.Needs.{needs}
-use Rattle.gilstavo.specs.WalkWords.{walkWords}
-use Rattle.gilstavo.proofs.Words.{refused-lent, accepted-lent}
+use Rattle.gilstavo.specs.Steps.{boundedStep}
+use Rattle.gilstavo.proofs.Words.{step-answer, step-refused, step-accepted}
 use Rattle.gilstavo.proofs.gilstavo_bounded_move.Statement.{statement}
 use Rattle.gilstavo.proofs.gilstavo_bounded_move.Tie as tie
 
 returns : tie.Need-returns
+unfolding boundedStep
 returns c =
     let d = c .before .before in
     let e = d .before .walk-of .ensures in
-    (rw e at (d .bounded-move .ensures .0), refused-lent _ _ _ (c .if1 .taken))
+    let a = rw e at (d .bounded-move .ensures .0) in
+    (step-answer _ _ a, step-refused _ _ a (c .if1 .taken))
 
 returns-2 : tie.Need-returns-2
+unfolding boundedStep
 returns-2 c =
     let d = c .before .before .before .before in
-    let e = d .before .walk-of .ensures in (
-      sym (c .before .before .if1 .left) ∙ rw e at (d .bounded-move .ensures .0),
-      accepted-lent _ _ (c .put-walk .ensures ∙ ap walkWords (rw e at (d .bounded-move .ensures .1))),
-    )
+    let e = d .before .walk-of .ensures in
+    let z = c .before .before .if1 .left in
+    let a = rw e at (d .bounded-move .ensures .0) in
+    (sym z ∙ step-answer _ _ a, step-accepted _ _ a z (c .put-walk .ensures) (rw e at (d .bounded-move .ensures .1)))
 
 pub gilstavo-bounded-move-spec : {M : Type 1} → statement M
 gilstavo-bounded-move-spec =

@@ -1,8 +1,8 @@
 -- The count of the call behind it, unless that refuses.
--- Rests on graph_check `count_successors`, Words.
+-- Rests on base Orders, graph_check `count_successors`.
 use mathlib.Core.Path.{sym, _∙_}
 use borrow.Author.Needs.{needs}
-use Rattle.gilstavo.proofs.Words.{refused-lent, accepted-lent}
+use Rattle.base.proofs.Orders.{refused-lent, accepted-lent}
 use Rattle.gilstavo.proofs.gilstavo_count_successors.Statement.{statement}
 use Rattle.gilstavo.proofs.gilstavo_count_successors.Tie as tie
 
