@@ -1,6 +1,6 @@
 -- What an answer 0 of weighing gives the build: an accepted sheet that something fits, its table in the area, and few enough cells.
 -- Rests on formats Accepted, calls Weigh and Area.
-use mathlib.Core.Path.{_≡_, refl, sym, ap, subst}
+use mathlib.Core.Path.{_≡_, refl, sym, ap, subst, _∙_}
 use mathlib.Core.Bool.{false}
 use mathlib.Core.List.{List}
 use Prim.Native.Nat.{ℕ, zero, suc, _*_, _≤_}

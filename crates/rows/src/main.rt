@@ -1,13 +1,13 @@
-// Gives lists of choices to three machines and prints their rows: the watch, guarded moves on the graph sheet, bounded moves on the sheet
-// that the build filled. Rests on build, moves, walk, weigh_sheet. The watch here is plain code of its own; nothing of it is lent to the others.
+// Gives lists of choices to three machines and prints their rows: the monitor, guarded moves on the graph sheet, bounded moves on the sheet
+// that the build filled. Rests on build, moves, reader, walk. The monitor here is plain code of its own, which finds completions by itself.
 use build::build;
 use libc::STDOUT_FILENO;
 use moves::bounded_move;
 use moves::guarded_move;
+use reader::edge_words;
 use walk::End;
 use walk::Moved;
 use walk::Walk;
-use weigh_sheet::weigh_sheet;
 ghost use Prim.Native.Nat.{_<_, _≤_};
 
 // The example of document 01 at the budget 8.
@@ -51,6 +51,9 @@ const SHEET: [u16; 37] = [
     0,
 ];
 
+// More than any cost of document 01's example.
+const NONE: usize = 65535;
+
 fn wide(x: u16) -> usize
     ensures { λ r. ⌜ r < 65536 ⌝ }
 {
@@ -67,12 +70,14 @@ fn word(s: &[u16], i: usize) -> usize
     0
 }
 
-// Whether a byte of the area is set; none is beyond it.
-fn is_set(area: &[u8], i: usize) -> bool {
-    if i < area.len() {
-        return area[i] != 0;
+// A cost of a row, and none beyond it.
+fn cost_in(row: &[u16], i: usize) -> usize
+    ensures { λ r. ⌜ r < 65536 ⌝ }
+{
+    if i < row.len() {
+        return wide(row[i]);
     }
-    false
+    NONE
 }
 
 // The number of the k-th edge of block v, 0 where there is none.
@@ -96,34 +101,57 @@ fn edge(s: &[u16], v: usize, k: usize) -> usize
     e
 }
 
-// A product of two small numbers.
-fn product(a: usize, b: usize) -> usize
-    requires { ⌜ (a ≤ 65536) × (b ≤ 65536) ⌝ }
-    ensures { λ r. ⌜ r ≤ 4294967296 ⌝ }
+// What block v costs with the cheapest of its successors, as they stand in the row.
+fn by_successors(s: &[u16], row: &[u16], v: usize) -> usize
+    requires { ⌜ v < 65536 ⌝ }
+    ensures { λ r. ⌜ r < 65536 ⌝ }
 {
-    a * b
-}
-
-// Whether block t has a completion costing at most r, by the completion table.
-fn fits(s: &[u16], area: &[u8], t: usize, r: usize) -> bool
-    requires { ⌜ (t < 65536) × (r < 65536) ⌝ }
-{
-    if t == 0 {
-        return false;
-    }
-    let width = word(s, 2) + 1;
-    let line = product(t - 1, width);
-    let mut c = 0;
-    while c <= r {
-        if is_set(area, line + c) {
-            return true;
+    let n = word(s, 0);
+    let cost = word(s, 2 * v + 1);
+    let mut best = NONE;
+    let mut e = word(s, 2 * v + 2);
+    let mut left = 512;
+    while 0 < left {
+        if e == 0 {
+            return best;
         }
-        c += 1;
+        let t = word(s, 2 * n + 2 * e + 1);
+        let c = cost + cost_in(row, t);
+        if c < best {
+            best = c;
+        }
+        e = word(s, 2 * n + 2 * e + 2);
+        left -= 1;
     }
-    false
+    best
 }
 
-// Whether the watch goes on.
+// One round over the blocks; the exit's cost stands.
+fn round(s: &[u16], row: [u16; 9]) -> [u16; 9] {
+    let mut next = row;
+    let mut v = 1;
+    while v < 9 {
+        if v != 2 {
+            next[v] = by_successors(s, &next, v) as u16;
+        }
+        v += 1;
+    }
+    next
+}
+
+// The cheapest completion of each block, found from the sheet alone: after as many rounds as there are blocks none gets cheaper.
+fn cheapest(s: &[u16]) -> [u16; 9] {
+    let mut row = [65535u16; 9];
+    row[2] = 0;
+    let mut k = 0;
+    while k < 8 {
+        row = round(s, row);
+        k += 1;
+    }
+    row
+}
+
+// Whether the monitor goes on.
 fn goes(end: End) -> bool {
     match end {
         End::Going => true,
@@ -132,8 +160,8 @@ fn goes(end: End) -> bool {
     }
 }
 
-// The watch: document 01's three rules.
-fn watch(s: &[u16], area: &[u8], w: Walk, choice: u16) -> Moved {
+// The monitor: document 01's three rules, with the cheapest completion of each block at hand.
+fn monitor(s: &[u16], completions: &[u16], w: Walk, choice: u16) -> Moved {
     let end = w.end;
     if !goes(end) {
         return Moved {
@@ -151,17 +179,7 @@ fn watch(s: &[u16], area: &[u8], w: Walk, choice: u16) -> Moved {
     let t = word(s, 2 * word(s, 0) + 2 * e + 1);
     let b = word(s, 2);
     let count = w.count as usize;
-    if b < count {
-        return Moved {
-            answer: 0,
-            walk: Walk {
-                place: w.place,
-                count: w.count,
-                end: End::Diverted,
-            },
-        };
-    }
-    if !fits(s, area, t, b - count) {
+    if b < count + cost_in(completions, t) {
         return Moved {
             answer: 0,
             walk: Walk {
@@ -222,30 +240,45 @@ fn print_end(block: usize, w: Walk) {
     ;
 }
 
+// The targets of a copy, from its edge words.
+fn print_targets(sheet: &[u16], copy: u16) {
+    let mut answer = 0u16;
+    let part = edge_words(sheet, copy, &mut answer);
+    io::write_all(STDOUT_FILENO, b"targets");
+    let mut i = 0;
+    while i < part.len() {
+        if i % 2 == 0 {
+            number(wide(part[i]));
+        }
+        i += 1;
+    }
+    io::write_all(STDOUT_FILENO, b"\n");
+}
+
 // The three machines after some choices, with their answers.
 struct Machines {
-    watch: Walk,
+    monitor: Walk,
     guarded: Walk,
     bounded: Walk,
-    watched: [u16; 8],
-    monitors: [u16; 8],
-    bounds: [u16; 8],
+    monitor_answers: [u16; 8],
+    guarded_answers: [u16; 8],
+    bounded_answers: [u16; 8],
 }
 
 fn begin() -> Machines {
     Machines {
-        watch: Walk::start(),
+        monitor: Walk::start(),
         guarded: Walk::start(),
         bounded: Walk::start(),
-        watched: [0u16; 8],
-        monitors: [0u16; 8],
-        bounds: [0u16; 8],
+        monitor_answers: [0u16; 8],
+        guarded_answers: [0u16; 8],
+        bounded_answers: [0u16; 8],
     }
 }
 
 // One choice, the j-th of n, given to all three; nothing beyond the n-th.
 fn give(
-    table: &[u8],
+    completions: &[u16],
     area: &mut [u8],
     sheet: &[u16],
     m: Machines,
@@ -258,79 +291,85 @@ fn give(
     if n <= j {
         return m;
     }
-    let a = watch(&SHEET, table, m.watch, choice);
+    let a = monitor(&SHEET, completions, m.monitor, choice);
     let b = guarded_move(&SHEET, area, m.guarded, choice);
     let c = bounded_move(sheet, m.bounded, choice);
     let mut next = m;
-    next.watched[j] = a.answer;
-    next.monitors[j] = b.answer;
-    next.bounds[j] = c.answer;
-    let watched = next.watched;
-    let monitors = next.monitors;
-    let bounds = next.bounds;
+    next.monitor_answers[j] = a.answer;
+    next.guarded_answers[j] = b.answer;
+    next.bounded_answers[j] = c.answer;
+    let first = next.monitor_answers;
+    let second = next.guarded_answers;
+    let third = next.bounded_answers;
     let x = a.walk;
     let y = b.walk;
     let z = c.walk;
     Machines {
-        watch: x,
+        monitor: x,
         guarded: y,
         bounded: z,
-        watched: watched,
-        monitors: monitors,
-        bounds: bounds,
+        monitor_answers: first,
+        guarded_answers: second,
+        bounded_answers: third,
     }
 }
 
-fn run(table: &[u8], area: &mut [u8], sheet: &[u16], choices: [u16; 8], n: usize) -> Machines {
+fn run(
+    completions: &[u16],
+    area: &mut [u8],
+    sheet: &[u16],
+    choices: [u16; 8],
+    n: usize,
+) -> Machines {
     let mut m = begin();
     let mut j = 0;
     while j < 8 {
-        m = give(table, area, sheet, m, n, j, choices[j]);
+        m = give(completions, area, sheet, m, n, j, choices[j]);
         j += 1;
     }
     m
 }
 
-// One list: its choices, and a row for each machine.
-fn print_list(table: &[u8], area: &mut [u8], sheet: &[u16], choices: [u16; 8], n: usize) {
-    let m = run(table, area, sheet, choices, n);
+// One list: its choices, a row for each machine, and the targets of the copy at which the bounded walk stands.
+fn print_list(completions: &[u16], area: &mut [u8], sheet: &[u16], choices: [u16; 8], n: usize) {
+    let m = run(completions, area, sheet, choices, n);
     io::write_all(STDOUT_FILENO, b"choices");
     print_row(choices, n);
-    io::write_all(STDOUT_FILENO, b"\nwatch");
-    let watched = m.watched;
-    let w = m.watch;
-    print_row(watched, n);
+    io::write_all(STDOUT_FILENO, b"\nmonitor");
+    let first = m.monitor_answers;
+    let w = m.monitor;
+    print_row(first, n);
     print_end(wide(w.place), w);
     io::write_all(STDOUT_FILENO, b"guarded");
-    let monitors = m.monitors;
+    let second = m.guarded_answers;
     let v = m.guarded;
-    print_row(monitors, n);
+    print_row(second, n);
     print_end(wide(v.place), v);
     io::write_all(STDOUT_FILENO, b"bounded");
-    let bounds = m.bounds;
+    let third = m.bounded_answers;
     let u = m.bounded;
-    print_row(bounds, n);
+    print_row(third, n);
     print_end(word(sheet, 3 * wide(u.place)), u);
+    print_targets(sheet, u.place);
 }
 
-fn print_lists(table: &[u8], area: &mut [u8], sheet: &[u16]) {
+fn print_lists(completions: &[u16], area: &mut [u8], sheet: &[u16]) {
     // no choice
-    print_list(table, area, sheet, [0, 0, 0, 0, 0, 0, 0, 0], 0);
+    print_list(completions, area, sheet, [0, 0, 0, 0, 0, 0, 0, 0], 0);
     // a choice of 0, one too large, and one that there is
-    print_list(table, area, sheet, [0, 2, 1, 0, 0, 0, 0, 0], 3);
+    print_list(completions, area, sheet, [0, 2, 1, 0, 0, 0, 0, 0], 3);
     // a path of cost exactly 8, and a choice after the end
-    print_list(table, area, sheet, [1, 2, 1, 1, 1, 1, 0, 0], 6);
+    print_list(completions, area, sheet, [1, 2, 1, 1, 1, 1, 0, 0], 6);
     // a path of cost 9: diverted at the first branch from which it can no longer finish, and choices after the end
-    print_list(table, area, sheet, [1, 1, 1, 2, 1, 1, 0, 0], 6);
+    print_list(completions, area, sheet, [1, 1, 1, 2, 1, 1, 0, 0], 6);
     // a path of cost 5
-    print_list(table, area, sheet, [1, 1, 1, 1, 1, 0, 0, 0], 5);
+    print_list(completions, area, sheet, [1, 1, 1, 1, 1, 0, 0, 0], 5);
 }
 
 fn main() {
-    let mut table = [0u8; 72];
+    let completions = cheapest(&SHEET);
     let mut area = [7u8; 80];
     let mut sheet = [0u16; 40];
-    weigh_sheet(&SHEET, &mut table);
     build(&SHEET, &mut area, &mut sheet);
-    print_lists(&table, &mut area, &sheet);
+    print_lists(&completions, &mut area, &sheet);
 }
