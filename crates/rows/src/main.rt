@@ -101,6 +101,15 @@ fn edge(s: &[u16], v: usize, k: usize) -> usize
     e
 }
 
+fn smaller(a: usize, b: usize) -> usize
+    ensures { λ r. ⌜ r ≤ b ⌝ }
+{
+    if a < b {
+        return a;
+    }
+    b
+}
+
 // What block v costs with the cheapest of its successors, as they stand in the row.
 fn by_successors(s: &[u16], row: &[u16], v: usize) -> usize
     requires { ⌜ v < 65536 ⌝ }
@@ -110,30 +119,36 @@ fn by_successors(s: &[u16], row: &[u16], v: usize) -> usize
     let cost = word(s, 2 * v + 1);
     let mut best = NONE;
     let mut e = word(s, 2 * v + 2);
-    let mut left = 512;
+    let mut left = 512usize;
     while 0 < left {
         if e == 0 {
             return best;
         }
         let t = word(s, 2 * n + 2 * e + 1);
         let c = cost + cost_in(row, t);
-        if c < best {
-            best = c;
-        }
+        best = smaller(c, best);
         e = word(s, 2 * n + 2 * e + 2);
         left -= 1;
     }
     best
 }
 
-// One round over the blocks; the exit's cost stands.
+// The cheapest completion of v, as the row has its successors; the exit's costs 0.
+fn entry(s: &[u16], row: &[u16], v: usize) -> u16
+    requires { ⌜ v < 65536 ⌝ }
+{
+    if v == 2 {
+        return 0;
+    }
+    by_successors(s, row, v) as u16
+}
+
+// One round over the blocks.
 fn round(s: &[u16], row: [u16; 9]) -> [u16; 9] {
     let mut next = row;
     let mut v = 1;
     while v < 9 {
-        if v != 2 {
-            next[v] = by_successors(s, &next, v) as u16;
-        }
+        next[v] = entry(s, &next, v);
         v += 1;
     }
     next
@@ -143,7 +158,7 @@ fn round(s: &[u16], row: [u16; 9]) -> [u16; 9] {
 fn cheapest(s: &[u16]) -> [u16; 9] {
     let mut row = [65535u16; 9];
     row[2] = 0;
-    let mut k = 0;
+    let mut k = 0usize;
     while k < 8 {
         row = round(s, row);
         k += 1;
