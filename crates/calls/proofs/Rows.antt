@@ -32,17 +32,17 @@ use Rattle.calls.specs.Build.{tooMany, smallOutput, buildOrder, outputAf
 use Rattle.calls.specs.Moves.{outOfShape, moveOrder, moved, guardedOrder, guardedReply, guardedMove, boundedMoveOrder, boundedMove}
 use Rattle.calls.specs.Program.{listingOrder, sheetListing, listing}
 use Rattle.calls.specs.Report.{sheetFigures, figures, report}
-use Rattle.calls.specs.Cases.{Case, endNumber, sheetShown, outcome}
-use Rattle.formats.specs.Samples.{paper, loop, twice, least, six, inBytes}
+use Rattle.calls.specs.Cases.{Case, areaWith, endNumber, sheetShown, outcome}
+use Rattle.formats.specs.Samples.{paper, loop, twice, least, six, inBytes, text, lines}
 use Rattle.calls.specs.Examples.{examples}
-use Rattle.calls.specs.Refusals.{sparing, refusals}
+use Rattle.calls.specs.Refusals.{sparing, dear, exitChained, refusals}
 
 -- every row comes out as it says
 abbrev pub Pinned : List (Case × List ℕ) → Type 0
 Pinned rows = map (λ r. outcome (r .0)) rows ≡ map (λ r. r .1) rows
 
 pub starred : Pinned examples
-unfolding examples paper loop twice least inBytes
+unfolding examples paper loop twice least inBytes text lines
     any all keep each chosen isNone from member distinct equal same before isIn numberFrom refused over lentAfter outside
     within completes largest lowOf fits copyFor targets add join spread candidates startCopies copiesFrom targetNumber
     follow unsound header costWord firstWord targetWord nextWord chain met successors
@@ -57,7 +57,7 @@ unfolding examples paper loop twice least inBytes
 starred = refl
 
 pub pinned : Pinned refusals
-unfolding refusals six loop least sparing inBytes
+unfolding refusals six loop least sparing dear exitChained areaWith inBytes text lines
     any all keep each chosen isNone from member distinct equal same before isIn numberFrom refused over lentAfter outside
     within completes largest lowOf fits copyFor targets add join spread candidates startCopies copiesFrom targetNumber
     taken replyAt reply answers final startAt endAt mostMoves isExit hasEnded monitorTake monitor boundedTake boundedWalk

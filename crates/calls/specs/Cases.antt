@@ -1,8 +1,8 @@
 -- Cases: one input of one call each, and what the definitions make of it, as a row of numbers. Examples and refusals are rows of them.
 -- Rests on theory Machines and Walks, formats Rule11 and Refusals, SheetGraph, Build, Moves, Program, Report, Demand.
 use mathlib.Core.List.{List, [], _∷_, _++_}
-use Prim.Native.Nat.{ℕ, zero, suc}
-use lib.ListN.{replicate}
+use Prim.Native.Nat.{ℕ, zero, suc, _+_, _-_, _*_}
+use lib.ListN.{replicate, set}
 use Rattle.theory.specs.Machines.{End, going, exit, diverted, answers, final}
 use Rattle.theory.specs.Walks.{Walk, starting}
 use Rattle.formats.specs.Rule11.{boundedRefusal}
@@ -31,6 +31,11 @@ pub data Case : Type 0 where
   listingFor : List ℕ → Case
   -- the report program's output on a catalogue's bytes
   reportFor : List ℕ → Case
+
+-- a work area of n blocks and the budget b, with the bytes of these blocks and costs 1, and all others 0
+unfoldable pub areaWith : ℕ → ℕ → List (ℕ × ℕ) → List ℕ
+areaWith n b [] = replicate (n * suc b) 0
+areaWith n b (p ∷ ps) = set (areaWith n b ps) ((p .0 - 1) * suc b + p .1) 1
 
 unfoldable pub endNumber : End → ℕ
 endNumber going = 0

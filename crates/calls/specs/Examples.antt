@@ -2,7 +2,7 @@
 -- Rests on formats Samples, Cases.
 use mathlib.Core.List.{List, [], _∷_}
 use Prim.Native.Nat.{ℕ}
-use Rattle.formats.specs.Samples.{paper, loop, twice, least, inBytes}
+use Rattle.formats.specs.Samples.{paper, loop, twice, least, inBytes, lines}
 use Rattle.calls.specs.Cases.{Case, sheetOf, listingFor}
 
 -- of an accepted build: 0, rule 11's answer, and the bounded sheet: header, copies, edges
@@ -82,17 +82,8 @@ examples =
     -- the listing with B = 9, byte for byte
     ∷ (
       listingFor (inBytes (paper 9)),
-      99 ∷ 111 ∷ 112 ∷ 105 ∷ 101 ∷ 115 ∷ 32 ∷ 57 ∷ 32 ∷ 101 ∷ 100 ∷ 103 ∷ 101 ∷ 115 ∷ 32 ∷ 49 ∷ 49 ∷ 32 ∷ 98 ∷ 117 ∷ 100 ∷ 103 ∷ 101 ∷ 116 ∷ 32 ∷ 57 ∷ 10
-          ∷ 49 ∷ 32 ∷ 49 ∷ 32 ∷ 57 ∷ 32 ∷ 51 ∷ 10
-          ∷ 50 ∷ 32 ∷ 50 ∷ 32 ∷ 48 ∷ 10
-          ∷ 51 ∷ 32 ∷ 51 ∷ 32 ∷ 57 ∷ 32 ∷ 52 ∷ 32 ∷ 53 ∷ 10
-          ∷ 52 ∷ 32 ∷ 52 ∷ 32 ∷ 55 ∷ 32 ∷ 55 ∷ 10
-          ∷ 53 ∷ 32 ∷ 53 ∷ 32 ∷ 54 ∷ 32 ∷ 54 ∷ 10
-          ∷ 54 ∷ 32 ∷ 54 ∷ 32 ∷ 50 ∷ 32 ∷ 56 ∷ 32 ∷ 48 ∷ 10
-          ∷ 55 ∷ 32 ∷ 54 ∷ 32 ∷ 54 ∷ 32 ∷ 56 ∷ 32 ∷ 57 ∷ 10
-          ∷ 56 ∷ 32 ∷ 55 ∷ 32 ∷ 49 ∷ 32 ∷ 50 ∷ 10
-          ∷ 57 ∷ 32 ∷ 56 ∷ 32 ∷ 53 ∷ 32 ∷ 50 ∷ 10 ∷ [],
+      lines ("copies 9 edges 11 budget 9" ∷ "1 1 9 3" ∷ "2 2 0" ∷ "3 3 9 4 5" ∷ "4 4 7 7" ∷ "5 5 6 6" ∷ "6 6 2 8 0" ∷ "7 6 6 8 9" ∷ "8 7 1 2" ∷ "9 8 5 2" ∷ []),
     )
     -- `refused` and the number
-    ∷ (listingFor (inBytes (paper 4)), 114 ∷ 101 ∷ 102 ∷ 117 ∷ 115 ∷ 101 ∷ 100 ∷ 32 ∷ 57 ∷ 10 ∷ [])
+    ∷ (listingFor (inBytes (paper 4)), lines ("refused 9" ∷ []))
     ∷ []

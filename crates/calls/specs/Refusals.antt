@@ -5,8 +5,8 @@ use Prim.Native.Nat.{ℕ}
 use lib.ListN.{replicate}
 use Rattle.theory.specs.Machines.{End, going, exit, diverted}
 use Rattle.theory.specs.Walks.{Walk}
-use Rattle.formats.specs.Samples.{loop, least, six, inBytes}
-use Rattle.calls.specs.Cases.{Case, buildOf, guardedOf, moveOf, monitorOf, listingFor, reportFor}
+use Rattle.formats.specs.Samples.{loop, least, six, inBytes, lines}
+use Rattle.calls.specs.Cases.{Case, areaWith, buildOf, guardedOf, moveOf, monitorOf, listingFor, reportFor}
 
 abbrev walk : ℕ → ℕ → End → Walk
 walk p c e = record { place = p; count = c; end = e }
@@ -14,6 +14,21 @@ walk p c e = record { place = p; count = c; end = e }
 -- blocks 3 and 4, of cost 1 and 2, each from the start and to the exit; B = 1
 unfoldable pub sparing : List ℕ
 sparing = 4 ∷ 4 ∷ 1 ∷ 0 ∷ 1 ∷ 0 ∷ 0 ∷ 1 ∷ 3 ∷ 2 ∷ 4 ∷ 3 ∷ 2 ∷ 4 ∷ 0 ∷ 2 ∷ 0 ∷ 2 ∷ 0 ∷ []
+
+-- block 3, of cost 5, from the start and to the exit; B = 1, so that nothing fits
+unfoldable pub dear : List ℕ
+dear = 3 ∷ 2 ∷ 1 ∷ 0 ∷ 1 ∷ 0 ∷ 0 ∷ 5 ∷ 2 ∷ 3 ∷ 0 ∷ 2 ∷ 0 ∷ []
+
+-- the exit has a chain
+unfoldable pub exitChained : List ℕ
+exitChained = 2 ∷ 1 ∷ 0 ∷ 0 ∷ 0 ∷ 0 ∷ 1 ∷ 2 ∷ 0 ∷ []
+
+-- the work areas of `dear` and of the loop at 6, by the completion costs of each block
+abbrev dearArea : List ℕ
+dearArea = areaWith 3 1 ((2, 0) ∷ [])
+
+abbrev loopArea : List ℕ
+loopArea = areaWith 3 6 ((1, 3) ∷ (1, 6) ∷ (2, 0) ∷ (3, 3) ∷ (3, 6) ∷ [])
 
 unfoldable pub refusals : List (Case × List ℕ)
 refusals =
@@ -29,15 +44,15 @@ refusals =
     -- 1: the area keeps its content, also where it has room for a header of one word
     ∷ (buildOf (record { sheet = 2 ∷ []; area = replicate 3 7; output = 9 ∷ [] }), 1 ∷ 7 ∷ 7 ∷ 7 ∷ 9 ∷ [])
     -- 8 before 21: the area keeps its content; 21 before 9 and 22; 9 before 22, 22: the area is filled, the output stays
-    ∷ (buildOf (record { sheet = 2 ∷ 1 ∷ 0 ∷ 0 ∷ 0 ∷ 0 ∷ 1 ∷ 2 ∷ 0 ∷ []; area = 7 ∷ []; output = 9 ∷ [] }), 8 ∷ 7 ∷ 9 ∷ [])
+    ∷ (buildOf (record { sheet = exitChained; area = 7 ∷ []; output = 9 ∷ [] }), 8 ∷ 7 ∷ 9 ∷ [])
     ∷ (
-      buildOf (record { sheet = 3 ∷ 2 ∷ 1 ∷ 0 ∷ 1 ∷ 0 ∷ 0 ∷ 5 ∷ 2 ∷ 3 ∷ 0 ∷ 2 ∷ 0 ∷ []; area = replicate 5 7; output = 9 ∷ [] }),
+      buildOf (record { sheet = dear; area = replicate 5 7; output = 9 ∷ [] }),
       21 ∷ 7 ∷ 7 ∷ 7 ∷ 7 ∷ 7 ∷ 9 ∷ [],
     )
     ∷ (buildOf (record { sheet = least; area = 7 ∷ []; output = 9 ∷ [] }), 21 ∷ 7 ∷ 9 ∷ [])
     ∷ (
-      buildOf (record { sheet = 3 ∷ 2 ∷ 1 ∷ 0 ∷ 1 ∷ 0 ∷ 0 ∷ 5 ∷ 2 ∷ 3 ∷ 0 ∷ 2 ∷ 0 ∷ []; area = replicate 7 7; output = 9 ∷ [] }),
-      9 ∷ 0 ∷ 0 ∷ 1 ∷ 0 ∷ 0 ∷ 0 ∷ 7 ∷ 9 ∷ [],
+      buildOf (record { sheet = dear; area = replicate 7 7; output = 9 ∷ [] }),
+      9 ∷ (dearArea ++ (7 ∷ 9 ∷ [])),
     )
     ∷ (
       buildOf (record { sheet = least; area = replicate 2 7; output = replicate 10 9 }),
@@ -46,90 +61,90 @@ refusals =
     -- a loop's second turn, a cost of exactly B, a block out of reach, a dead end: the bytes of the area
     ∷ (
       buildOf (record { sheet = loop 6; area = replicate 21 7; output = [] }),
-      22 ∷ 0 ∷ 0 ∷ 0 ∷ 1 ∷ 0 ∷ 0 ∷ 1 ∷ 1 ∷ 0 ∷ 0 ∷ 0 ∷ 0 ∷ 0 ∷ 0 ∷ 0 ∷ 0 ∷ 0 ∷ 1 ∷ 0 ∷ 0 ∷ 1 ∷ [],
+      22 ∷ loopArea,
     )
     ∷ (
       buildOf (record { sheet = 4 ∷ 2 ∷ 2 ∷ 0 ∷ 1 ∷ 0 ∷ 0 ∷ 1 ∷ 0 ∷ 2 ∷ 2 ∷ 2 ∷ 0 ∷ 2 ∷ 0 ∷ []; area = replicate 12 7; output = [] }),
-      22 ∷ 1 ∷ 0 ∷ 0 ∷ 1 ∷ 0 ∷ 0 ∷ 0 ∷ 0 ∷ 0 ∷ 0 ∷ 0 ∷ 1 ∷ [],
+      22 ∷ areaWith 4 2 ((1, 0) ∷ (2, 0) ∷ (4, 2) ∷ []),
     )
     -- a guarded move: 8 before 21, 21 before 9, 9 before 33, 33 before 32, 32 before 31; the walk stays, the area only before 9
     ∷ (
-      guardedOf (2 ∷ 1 ∷ 0 ∷ 0 ∷ 0 ∷ 0 ∷ 1 ∷ 2 ∷ 0 ∷ []) (walk 0 0 going) (record { choice = 1; area = 7 ∷ [] }),
+      guardedOf exitChained (walk 0 0 going) (record { choice = 1; area = 7 ∷ [] }),
       8 ∷ 0 ∷ 0 ∷ 0 ∷ 7 ∷ [],
     )
     ∷ (
-      guardedOf (3 ∷ 2 ∷ 1 ∷ 0 ∷ 1 ∷ 0 ∷ 0 ∷ 5 ∷ 2 ∷ 3 ∷ 0 ∷ 2 ∷ 0 ∷ []) (walk 0 0 going) (record { choice = 1; area = replicate 5 7 }),
+      guardedOf dear (walk 0 0 going) (record { choice = 1; area = replicate 5 7 }),
       21 ∷ 0 ∷ 0 ∷ 0 ∷ 7 ∷ 7 ∷ 7 ∷ 7 ∷ 7 ∷ [],
     )
     ∷ (
-      guardedOf (3 ∷ 2 ∷ 1 ∷ 0 ∷ 1 ∷ 0 ∷ 0 ∷ 5 ∷ 2 ∷ 3 ∷ 0 ∷ 2 ∷ 0 ∷ []) (walk 0 0 going) (record { choice = 1; area = replicate 6 7 }),
-      9 ∷ 0 ∷ 0 ∷ 0 ∷ 0 ∷ 0 ∷ 1 ∷ 0 ∷ 0 ∷ 0 ∷ [],
+      guardedOf dear (walk 0 0 going) (record { choice = 1; area = replicate 6 7 }),
+      9 ∷ 0 ∷ 0 ∷ 0 ∷ dearArea,
     )
     ∷ (
       guardedOf (loop 6) (walk 0 0 diverted) (record { choice = 0; area = replicate 21 7 }),
-      33 ∷ 0 ∷ 0 ∷ 2 ∷ 0 ∷ 0 ∷ 0 ∷ 1 ∷ 0 ∷ 0 ∷ 1 ∷ 1 ∷ 0 ∷ 0 ∷ 0 ∷ 0 ∷ 0 ∷ 0 ∷ 0 ∷ 0 ∷ 0 ∷ 1 ∷ 0 ∷ 0 ∷ 1 ∷ [],
+      33 ∷ 0 ∷ 0 ∷ 2 ∷ loopArea,
     )
     ∷ (
       guardedOf (loop 6) (walk 1 0 diverted) (record { choice = 0; area = replicate 21 7 }),
-      32 ∷ 1 ∷ 0 ∷ 2 ∷ 0 ∷ 0 ∷ 0 ∷ 1 ∷ 0 ∷ 0 ∷ 1 ∷ 1 ∷ 0 ∷ 0 ∷ 0 ∷ 0 ∷ 0 ∷ 0 ∷ 0 ∷ 0 ∷ 0 ∷ 1 ∷ 0 ∷ 0 ∷ 1 ∷ [],
+      32 ∷ 1 ∷ 0 ∷ 2 ∷ loopArea,
     )
     ∷ (
       guardedOf (loop 6) (walk 2 6 exit) (record { choice = 1; area = replicate 21 7 }),
-      32 ∷ 2 ∷ 6 ∷ 1 ∷ 0 ∷ 0 ∷ 0 ∷ 1 ∷ 0 ∷ 0 ∷ 1 ∷ 1 ∷ 0 ∷ 0 ∷ 0 ∷ 0 ∷ 0 ∷ 0 ∷ 0 ∷ 0 ∷ 0 ∷ 1 ∷ 0 ∷ 0 ∷ 1 ∷ [],
+      32 ∷ 2 ∷ 6 ∷ 1 ∷ loopArea,
     )
     ∷ (
       guardedOf (loop 6) (walk 1 0 going) (record { choice = 0; area = replicate 21 7 }),
-      31 ∷ 1 ∷ 0 ∷ 0 ∷ 0 ∷ 0 ∷ 0 ∷ 1 ∷ 0 ∷ 0 ∷ 1 ∷ 1 ∷ 0 ∷ 0 ∷ 0 ∷ 0 ∷ 0 ∷ 0 ∷ 0 ∷ 0 ∷ 0 ∷ 1 ∷ 0 ∷ 0 ∷ 1 ∷ [],
+      31 ∷ 1 ∷ 0 ∷ 0 ∷ loopArea,
     )
     ∷ (
       guardedOf (loop 6) (walk 1 0 going) (record { choice = 2; area = replicate 21 7 }),
-      31 ∷ 1 ∷ 0 ∷ 0 ∷ 0 ∷ 0 ∷ 0 ∷ 1 ∷ 0 ∷ 0 ∷ 1 ∷ 1 ∷ 0 ∷ 0 ∷ 0 ∷ 0 ∷ 0 ∷ 0 ∷ 0 ∷ 0 ∷ 0 ∷ 1 ∷ 0 ∷ 0 ∷ 1 ∷ [],
+      31 ∷ 1 ∷ 0 ∷ 0 ∷ loopArea,
     )
     -- 33: the place outside the sheet, end exit and place 2 not together either way, the count above B of a going and of an ended walk
     ∷ (
       guardedOf (loop 6) (walk 4 0 going) (record { choice = 1; area = replicate 21 7 }),
-      33 ∷ 4 ∷ 0 ∷ 0 ∷ 0 ∷ 0 ∷ 0 ∷ 1 ∷ 0 ∷ 0 ∷ 1 ∷ 1 ∷ 0 ∷ 0 ∷ 0 ∷ 0 ∷ 0 ∷ 0 ∷ 0 ∷ 0 ∷ 0 ∷ 1 ∷ 0 ∷ 0 ∷ 1 ∷ [],
+      33 ∷ 4 ∷ 0 ∷ 0 ∷ loopArea,
     )
     ∷ (
       guardedOf (loop 6) (walk 3 0 exit) (record { choice = 1; area = replicate 21 7 }),
-      33 ∷ 3 ∷ 0 ∷ 1 ∷ 0 ∷ 0 ∷ 0 ∷ 1 ∷ 0 ∷ 0 ∷ 1 ∷ 1 ∷ 0 ∷ 0 ∷ 0 ∷ 0 ∷ 0 ∷ 0 ∷ 0 ∷ 0 ∷ 0 ∷ 1 ∷ 0 ∷ 0 ∷ 1 ∷ [],
+      33 ∷ 3 ∷ 0 ∷ 1 ∷ loopArea,
     )
     ∷ (
       guardedOf (loop 6) (walk 2 0 going) (record { choice = 1; area = replicate 21 7 }),
-      33 ∷ 2 ∷ 0 ∷ 0 ∷ 0 ∷ 0 ∷ 0 ∷ 1 ∷ 0 ∷ 0 ∷ 1 ∷ 1 ∷ 0 ∷ 0 ∷ 0 ∷ 0 ∷ 0 ∷ 0 ∷ 0 ∷ 0 ∷ 0 ∷ 1 ∷ 0 ∷ 0 ∷ 1 ∷ [],
+      33 ∷ 2 ∷ 0 ∷ 0 ∷ loopArea,
     )
     ∷ (
       guardedOf (loop 6) (walk 2 0 diverted) (record { choice = 1; area = replicate 21 7 }),
-      33 ∷ 2 ∷ 0 ∷ 2 ∷ 0 ∷ 0 ∷ 0 ∷ 1 ∷ 0 ∷ 0 ∷ 1 ∷ 1 ∷ 0 ∷ 0 ∷ 0 ∷ 0 ∷ 0 ∷ 0 ∷ 0 ∷ 0 ∷ 0 ∷ 1 ∷ 0 ∷ 0 ∷ 1 ∷ [],
+      33 ∷ 2 ∷ 0 ∷ 2 ∷ loopArea,
     )
     ∷ (
       guardedOf (loop 6) (walk 3 7 going) (record { choice = 1; area = replicate 21 7 }),
-      33 ∷ 3 ∷ 7 ∷ 0 ∷ 0 ∷ 0 ∷ 0 ∷ 1 ∷ 0 ∷ 0 ∷ 1 ∷ 1 ∷ 0 ∷ 0 ∷ 0 ∷ 0 ∷ 0 ∷ 0 ∷ 0 ∷ 0 ∷ 0 ∷ 1 ∷ 0 ∷ 0 ∷ 1 ∷ [],
+      33 ∷ 3 ∷ 7 ∷ 0 ∷ loopArea,
     )
     ∷ (
       guardedOf (loop 6) (walk 3 7 diverted) (record { choice = 1; area = replicate 21 7 }),
-      33 ∷ 3 ∷ 7 ∷ 2 ∷ 0 ∷ 0 ∷ 0 ∷ 1 ∷ 0 ∷ 0 ∷ 1 ∷ 1 ∷ 0 ∷ 0 ∷ 0 ∷ 0 ∷ 0 ∷ 0 ∷ 0 ∷ 0 ∷ 0 ∷ 1 ∷ 0 ∷ 0 ∷ 1 ∷ [],
+      33 ∷ 3 ∷ 7 ∷ 2 ∷ loopArea,
     )
     ∷ (
       guardedOf (loop 6) (walk 3 6 diverted) (record { choice = 1; area = replicate 21 7 }),
-      32 ∷ 3 ∷ 6 ∷ 2 ∷ 0 ∷ 0 ∷ 0 ∷ 1 ∷ 0 ∷ 0 ∷ 1 ∷ 1 ∷ 0 ∷ 0 ∷ 0 ∷ 0 ∷ 0 ∷ 0 ∷ 0 ∷ 0 ∷ 0 ∷ 1 ∷ 0 ∷ 0 ∷ 1 ∷ [],
+      32 ∷ 3 ∷ 6 ∷ 2 ∷ loopArea,
     )
     -- 0: a block is entered, the exit is entered, the walk is diverted and keeps place and count; a path of cost exactly B is kept
     ∷ (
       guardedOf (loop 6) (walk 1 0 going) (record { choice = 1; area = replicate 21 7 }),
-      0 ∷ 3 ∷ 3 ∷ 0 ∷ 0 ∷ 0 ∷ 0 ∷ 1 ∷ 0 ∷ 0 ∷ 1 ∷ 1 ∷ 0 ∷ 0 ∷ 0 ∷ 0 ∷ 0 ∷ 0 ∷ 0 ∷ 0 ∷ 0 ∷ 1 ∷ 0 ∷ 0 ∷ 1 ∷ [],
+      0 ∷ 3 ∷ 3 ∷ 0 ∷ loopArea,
     )
     ∷ (
       guardedOf (loop 6) (walk 3 3 going) (record { choice = 1; area = replicate 21 7 }),
-      0 ∷ 3 ∷ 6 ∷ 0 ∷ 0 ∷ 0 ∷ 0 ∷ 1 ∷ 0 ∷ 0 ∷ 1 ∷ 1 ∷ 0 ∷ 0 ∷ 0 ∷ 0 ∷ 0 ∷ 0 ∷ 0 ∷ 0 ∷ 0 ∷ 1 ∷ 0 ∷ 0 ∷ 1 ∷ [],
+      0 ∷ 3 ∷ 6 ∷ 0 ∷ loopArea,
     )
     ∷ (
       guardedOf (loop 6) (walk 3 6 going) (record { choice = 2; area = replicate 21 7 }),
-      0 ∷ 2 ∷ 6 ∷ 1 ∷ 0 ∷ 0 ∷ 0 ∷ 1 ∷ 0 ∷ 0 ∷ 1 ∷ 1 ∷ 0 ∷ 0 ∷ 0 ∷ 0 ∷ 0 ∷ 0 ∷ 0 ∷ 0 ∷ 0 ∷ 1 ∷ 0 ∷ 0 ∷ 1 ∷ [],
+      0 ∷ 2 ∷ 6 ∷ 1 ∷ loopArea,
     )
     ∷ (
       guardedOf (loop 6) (walk 3 6 going) (record { choice = 1; area = replicate 21 7 }),
-      0 ∷ 3 ∷ 6 ∷ 2 ∷ 0 ∷ 0 ∷ 0 ∷ 1 ∷ 0 ∷ 0 ∷ 1 ∷ 1 ∷ 0 ∷ 0 ∷ 0 ∷ 0 ∷ 0 ∷ 0 ∷ 0 ∷ 0 ∷ 0 ∷ 1 ∷ 0 ∷ 0 ∷ 1 ∷ [],
+      0 ∷ 3 ∷ 6 ∷ 2 ∷ loopArea,
     )
     -- a bounded move: 11 before 33, 33 before 32, 32 before 31; the walk stays
     ∷ (moveOf (2 ∷ []) (walk 0 0 going) 1, 11 ∷ 0 ∷ 0 ∷ 0 ∷ [])
@@ -160,33 +175,21 @@ refusals =
     ∷ (monitorOf (loop 6) (1 ∷ 1 ∷ 2 ∷ []), 0 ∷ 0 ∷ 0 ∷ 2 ∷ 6 ∷ 1 ∷ [])
     ∷ (monitorOf (loop 6) (1 ∷ 1 ∷ 1 ∷ 2 ∷ []), 0 ∷ 0 ∷ 0 ∷ 32 ∷ 3 ∷ 6 ∷ 2 ∷ [])
     -- the listing program: no byte, an odd byte more or less, an odd number of bytes of a long file, one word too few
-    ∷ (listingFor [], 114 ∷ 101 ∷ 102 ∷ 117 ∷ 115 ∷ 101 ∷ 100 ∷ 32 ∷ 49 ∷ 10 ∷ [])
-    ∷ (listingFor (0 ∷ inBytes least), 114 ∷ 101 ∷ 102 ∷ 117 ∷ 115 ∷ 101 ∷ 100 ∷ 32 ∷ 49 ∷ 10 ∷ [])
-    ∷ (listingFor (replicate 21 129), 114 ∷ 101 ∷ 102 ∷ 117 ∷ 115 ∷ 101 ∷ 100 ∷ 32 ∷ 49 ∷ 10 ∷ [])
-    ∷ (listingFor (replicate 20 129), 114 ∷ 101 ∷ 102 ∷ 117 ∷ 115 ∷ 101 ∷ 100 ∷ 32 ∷ 50 ∷ 10 ∷ [])
+    ∷ (listingFor [], lines ("refused 1" ∷ []))
+    ∷ (listingFor (0 ∷ inBytes least), lines ("refused 1" ∷ []))
+    ∷ (listingFor (replicate 21 129), lines ("refused 1" ∷ []))
+    ∷ (listingFor (replicate 20 129), lines ("refused 2" ∷ []))
     -- the report program: an empty sheet is 1, a length beyond the words left 3; an odd last byte is ignored, an odd first one moves all words
     ∷ (
       reportFor (inBytes ((9 ∷ least) ++ ((15 ∷ loop 9) ++ ((15 ∷ loop 2) ++ (0 ∷ (19 ∷ sparing) ++ (10 ∷ least)))))),
-      49 ∷ 32 ∷ 50 ∷ 32 ∷ 50 ∷ 32 ∷ 49 ∷ 10
-          ∷ 50 ∷ 32 ∷ 51 ∷ 32 ∷ 53 ∷ 32 ∷ 55 ∷ 10
-          ∷ 51 ∷ 32 ∷ 114 ∷ 101 ∷ 102 ∷ 117 ∷ 115 ∷ 101 ∷ 100 ∷ 32 ∷ 57 ∷ 10
-          ∷ 52 ∷ 32 ∷ 114 ∷ 101 ∷ 102 ∷ 117 ∷ 115 ∷ 101 ∷ 100 ∷ 32 ∷ 49 ∷ 10
-          ∷ 53 ∷ 32 ∷ 52 ∷ 32 ∷ 51 ∷ 32 ∷ 51 ∷ 10
-          ∷ 54 ∷ 32 ∷ 114 ∷ 101 ∷ 102 ∷ 117 ∷ 115 ∷ 101 ∷ 100 ∷ 32 ∷ 51 ∷ 10
-          ∷ 116 ∷ 111 ∷ 116 ∷ 97 ∷ 108 ∷ 32 ∷ 57 ∷ 32 ∷ 49 ∷ 48 ∷ 32 ∷ 49 ∷ 49 ∷ 10
-          ∷ 109 ∷ 111 ∷ 115 ∷ 116 ∷ 32 ∷ 50 ∷ 32 ∷ 53 ∷ 32 ∷ 51 ∷ 10
-          ∷ 117 ∷ 110 ∷ 117 ∷ 115 ∷ 101 ∷ 100 ∷ 32 ∷ 53 ∷ 32 ∷ 52 ∷ 10 ∷ [],
+      lines ("1 2 2 1" ∷ "2 3 5 7" ∷ "3 refused 9" ∷ "4 refused 1" ∷ "5 4 3 3" ∷ "6 refused 3" ∷ "total 9 10 11" ∷ "most 2 5 3" ∷ "unused 5 4" ∷ []),
     )
     ∷ (
       reportFor (inBytes (9 ∷ least) ++ (9 ∷ [])),
-      49 ∷ 32 ∷ 50 ∷ 32 ∷ 50 ∷ 32 ∷ 49 ∷ 10
-          ∷ 116 ∷ 111 ∷ 116 ∷ 97 ∷ 108 ∷ 32 ∷ 50 ∷ 32 ∷ 50 ∷ 32 ∷ 49 ∷ 10
-          ∷ 109 ∷ 111 ∷ 115 ∷ 116 ∷ 32 ∷ 49 ∷ 32 ∷ 50 ∷ 32 ∷ 50 ∷ 10 ∷ [],
+      lines ("1 2 2 1" ∷ "total 2 2 1" ∷ "most 1 2 2" ∷ []),
     )
     ∷ (
       reportFor (0 ∷ inBytes (9 ∷ least)),
-      49 ∷ 32 ∷ 114 ∷ 101 ∷ 102 ∷ 117 ∷ 115 ∷ 101 ∷ 100 ∷ 32 ∷ 51 ∷ 10
-          ∷ 116 ∷ 111 ∷ 116 ∷ 97 ∷ 108 ∷ 32 ∷ 48 ∷ 32 ∷ 48 ∷ 32 ∷ 48 ∷ 10
-          ∷ 109 ∷ 111 ∷ 115 ∷ 116 ∷ 32 ∷ 110 ∷ 111 ∷ 110 ∷ 101 ∷ 10 ∷ [],
+      lines ("1 refused 3" ∷ "total 0 0 0" ∷ "most none" ∷ []),
     )
     ∷ []

@@ -17,11 +17,11 @@ use Rattle.formats.specs.Listing.{digits, decimal, line, headingLine, co
 use Rattle.formats.specs.Catalogue.{sheetsUpTo, sheets}
 use Rattle.formats.specs.Report.{unusedBlocks, refusedAs, figuresLine, refusedLine, sheetLine, plus, sums, totalLine}
 use Rattle.formats.specs.Report.{greater, mostOf, most, mostLine, unusedLine, unusedLines, eachSheet, reportOf}
-use Rattle.formats.specs.Samples.{paper, least, nine, inBytes}
+use Rattle.formats.specs.Samples.{paper, least, nine, inBytes, text, lines}
 use Rattle.formats.specs.Refusals.{sheetShown, outcome, refusals}
 
 pub pinned : map (λ r. outcome (r .0)) refusals ≡ map (λ r. r .1) refusals
-unfolding refusals paper least nine inBytes
+unfolding refusals paper least nine inBytes text lines
     any all keep each from member distinct equal before refused over outside
     follow chainLength unsound header costWord firstWord targetWord nextWord chain met successorCount
     short badCounts badLength badBudget costFits badCosts badTargets badChains exitChain sheetOrder sheetRefusal countOrder countSuccessors

@@ -11,7 +11,7 @@ use Rattle.formats.specs.File.{wordsOf}
 use Rattle.formats.specs.Listing.{decimal, listingOf}
 use Rattle.formats.specs.Catalogue.{sheetsUpTo, sheets}
 use Rattle.formats.specs.Report.{Figures, unusedBlocks, refusedAs, reportOf}
-use Rattle.formats.specs.Samples.{paper, nine, inBytes}
+use Rattle.formats.specs.Samples.{paper, nine, inBytes, lines}
 
 -- one input of one call
 pub data Case : Type 0 where
@@ -167,10 +167,7 @@ refusals =
     -- the listing of the shortest bounded sheet: `copies 2 edges 1 budget 0`, `1 1 0 2`, `2 2 0`
     ∷ (
       textOf (2 ∷ 1 ∷ 0 ∷ 1 ∷ 0 ∷ 1 ∷ 2 ∷ 0 ∷ 0 ∷ 2 ∷ 0 ∷ []),
-      99 ∷ 111 ∷ 112 ∷ 105 ∷ 101 ∷ 115 ∷ 32 ∷ 50 ∷ 32 ∷ 101 ∷ 100 ∷ 103 ∷ 101 ∷ 115 ∷ 32 ∷ 49
-          ∷ 32 ∷ 98 ∷ 117 ∷ 100 ∷ 103 ∷ 101 ∷ 116 ∷ 32 ∷ 48 ∷ 10
-          ∷ 49 ∷ 32 ∷ 49 ∷ 32 ∷ 48 ∷ 32 ∷ 50 ∷ 10
-          ∷ 50 ∷ 32 ∷ 50 ∷ 32 ∷ 48 ∷ 10 ∷ [],
+      lines ("copies 2 edges 1 budget 0" ∷ "1 1 0 2" ∷ "2 2 0" ∷ []),
     )
     -- a catalogue's sheets: none; lengths 2 and 0; words after the last that is asked for; a length beyond the words left, with and without words
     ∷ (sheetsOf 9 [], [])
@@ -187,33 +184,18 @@ refusals =
     -- reports: no sheet; only refused ones; a refused one between others, equal fractions, unused blocks; a smaller fraction with more copies
     ∷ (
       reportFrom [],
-      116 ∷ 111 ∷ 116 ∷ 97 ∷ 108 ∷ 32 ∷ 48 ∷ 32 ∷ 48 ∷ 32 ∷ 48 ∷ 10
-          ∷ 109 ∷ 111 ∷ 115 ∷ 116 ∷ 32 ∷ 110 ∷ 111 ∷ 110 ∷ 101 ∷ 10 ∷ [],
+      lines ("total 0 0 0" ∷ "most none" ∷ []),
     )
     ∷ (
       reportFrom (refusedAs 10 ∷ []),
-      49 ∷ 32 ∷ 114 ∷ 101 ∷ 102 ∷ 117 ∷ 115 ∷ 101 ∷ 100 ∷ 32 ∷ 49 ∷ 48 ∷ 10
-          ∷ 116 ∷ 111 ∷ 116 ∷ 97 ∷ 108 ∷ 32 ∷ 48 ∷ 32 ∷ 48 ∷ 32 ∷ 48 ∷ 10
-          ∷ 109 ∷ 111 ∷ 115 ∷ 116 ∷ 32 ∷ 110 ∷ 111 ∷ 110 ∷ 101 ∷ 10 ∷ [],
+      lines ("1 refused 10" ∷ "total 0 0 0" ∷ "most none" ∷ []),
     )
     ∷ (
       reportFrom (figured 4 4 5 (4 ∷ []) ∷ refusedAs 3 ∷ figured 2 3 1 [] ∷ figured 4 6 3 (3 ∷ 4 ∷ []) ∷ []),
-      49 ∷ 32 ∷ 52 ∷ 32 ∷ 52 ∷ 32 ∷ 53 ∷ 10
-          ∷ 50 ∷ 32 ∷ 114 ∷ 101 ∷ 102 ∷ 117 ∷ 115 ∷ 101 ∷ 100 ∷ 32 ∷ 51 ∷ 10
-          ∷ 51 ∷ 32 ∷ 50 ∷ 32 ∷ 51 ∷ 32 ∷ 49 ∷ 10
-          ∷ 52 ∷ 32 ∷ 52 ∷ 32 ∷ 54 ∷ 32 ∷ 51 ∷ 10
-          ∷ 116 ∷ 111 ∷ 116 ∷ 97 ∷ 108 ∷ 32 ∷ 49 ∷ 48 ∷ 32 ∷ 49 ∷ 51 ∷ 32 ∷ 57 ∷ 10
-          ∷ 109 ∷ 111 ∷ 115 ∷ 116 ∷ 32 ∷ 51 ∷ 32 ∷ 51 ∷ 32 ∷ 50 ∷ 10
-          ∷ 117 ∷ 110 ∷ 117 ∷ 115 ∷ 101 ∷ 100 ∷ 32 ∷ 49 ∷ 32 ∷ 52 ∷ 10
-          ∷ 117 ∷ 110 ∷ 117 ∷ 115 ∷ 101 ∷ 100 ∷ 32 ∷ 52 ∷ 32 ∷ 51 ∷ 10
-          ∷ 117 ∷ 110 ∷ 117 ∷ 115 ∷ 101 ∷ 100 ∷ 32 ∷ 52 ∷ 32 ∷ 52 ∷ 10 ∷ [],
+      lines ("1 4 4 5" ∷ "2 refused 3" ∷ "3 2 3 1" ∷ "4 4 6 3" ∷ "total 10 13 9" ∷ "most 3 3 2" ∷ "unused 1 4" ∷ "unused 4 3" ∷ "unused 4 4" ∷ []),
     )
     ∷ (
       reportFrom (figured 100 149 9 [] ∷ figured 2 3 1 [] ∷ figured 3 4 1 [] ∷ []),
-      49 ∷ 32 ∷ 49 ∷ 48 ∷ 48 ∷ 32 ∷ 49 ∷ 52 ∷ 57 ∷ 32 ∷ 57 ∷ 10
-          ∷ 50 ∷ 32 ∷ 50 ∷ 32 ∷ 51 ∷ 32 ∷ 49 ∷ 10
-          ∷ 51 ∷ 32 ∷ 51 ∷ 32 ∷ 52 ∷ 32 ∷ 49 ∷ 10
-          ∷ 116 ∷ 111 ∷ 116 ∷ 97 ∷ 108 ∷ 32 ∷ 49 ∷ 48 ∷ 53 ∷ 32 ∷ 49 ∷ 53 ∷ 54 ∷ 32 ∷ 49 ∷ 49 ∷ 10
-          ∷ 109 ∷ 111 ∷ 115 ∷ 116 ∷ 32 ∷ 50 ∷ 32 ∷ 51 ∷ 32 ∷ 50 ∷ 10 ∷ [],
+      lines ("1 100 149 9" ∷ "2 2 3 1" ∷ "3 3 4 1" ∷ "total 105 156 11" ∷ "most 2 3 2" ∷ []),
     )
     ∷ []

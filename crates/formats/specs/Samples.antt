@@ -1,7 +1,9 @@
--- Sample sheets: the graph sheets of document 01's examples, and two bounded sheets.
+-- Sample sheets for rows: the graph sheets of document 01's examples, and two bounded sheets; files and texts by their bytes.
 -- Rests on base Lists.
-use mathlib.Core.List.{List, [], _∷_}
+use mathlib.Core.List.{List, [], _∷_, _++_}
 use Prim.Native.Nat.{ℕ, _/_, _%_}
+use Prim.Native.Char.{code}
+use Prim.Native.String.{String, [] as end, _∷_ as _then_}
 use Rattle.base.specs.Lists.{each}
 
 -- the document's example: costs 0, 0, 2, 1, 4, 1, 1, 5; successors 1: 3; 3: 4, 5; 4: 6; 5: 6; 6: 7, 8; 7: 2; 8: 2
@@ -36,3 +38,11 @@ six = 4 ∷ 5 ∷ 6 ∷ 1 ∷ 6 ∷ 1 ∷ 2 ∷ 0 ∷ 0 ∷ 3 ∷ 3 ∷ 2 ∷ 3 
 -- a file: each word as two bytes, the lower first
 unfoldable pub inBytes : List ℕ → List ℕ
 inBytes w = each (λ x. x % 256 ∷ x / 256 ∷ []) w
+
+-- a text's bytes, and lines of it
+unfoldable pub text : String → List ℕ
+text end = []
+text (c then cs) = code c ∷ text cs
+
+unfoldable pub lines : List String → List ℕ
+lines ls = each (λ l. text l ++ (10 ∷ [])) ls
