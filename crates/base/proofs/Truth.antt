@@ -68,11 +68,6 @@ module _ {A : Type 0} (f : A → Bool) where
   none-any [] h = refl
   none-any (x ∷ xs) h = rw (h x (List·Memᴰ·head refl)) (none-any xs (λ y m. h y (List·Memᴰ·tail m)))
 
-  pub all-i : (xs : List A) → ((x : A) → List·Memᴰ x xs → f x ≡ true) → all f xs ≡ true
-  unfolding all
-  all-i [] h = refl
-  all-i (x ∷ xs) h = and-i (h x (List·Memᴰ·head refl)) (all-i xs (λ y m. h y (List·Memᴰ·tail m)))
-
   pub all-e : {x : A} (xs : List A) → all f xs ≡ true → List·Memᴰ x xs → f x ≡ true
   unfolding all
   all-e [] e m = absurd (List·Memᴰ·not-nil m)

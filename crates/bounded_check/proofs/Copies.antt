@@ -1,5 +1,5 @@
 -- The copies of one block, counted by a loop; a search among them as a search among all.
--- Rests on base Lists, graph_check Search.
+-- Rests on base Lists and Search.
 use mathlib.Core.Path.{_≡_, refl, sym, ap, _∙_}
 use mathlib.Core.Bool.{Bool, true, false, _&&_, _||_}
 use mathlib.Core.List.{List, [], _∷_}

@@ -1,5 +1,5 @@
 -- The loops that follow chains in the order of their copies: one turn of each, and what they say of the edge order.
--- Rests on graph_check Search and Chains, formats Rule11.
+-- Rests on base Search, formats Chains and Rule11, specs Chains.
 use mathlib.Core.Path.{_≡_, sym, ap, _∙_}
 use mathlib.Core.Bool.{Bool, true, _&&_, not}
 use mathlib.Core.List.{List, [], _∷_, _++_}

@@ -1,5 +1,5 @@
 -- Rule 11 in its three parts, as functions that return early find them.
--- Rests on base Checks, formats Rule11, graph_check Orders, bounded_words Formed.
+-- Rests on base Orders and Truth, formats Rule11, bounded_words Formed, specs Parts.
 use mathlib.Core.Path.{_≡_, refl, ap, _∙_}
 use mathlib.Core.Bool.{Bool, true, false, _||_, or-assoc, or-false}
 use mathlib.Core.List.{List, [], _∷_, map}

@@ -12,17 +12,16 @@ use Rattle.base.specs.Lists.{isNone}
 use Rattle.base.specs.Checks.{Order, refused, over}
 use Rattle.base.proofs.Truth.{not-both, else-false}
 use Rattle.base.proofs.Orders.{over-is}
-use Rattle.theory.specs.Completions.{Graph, Completion, NoLow, completes, lowOf}
+use Rattle.theory.specs.Completions.{Graph, Completion, completes, lowOf}
 use Rattle.theory.specs.Setting.{WellFormed}
-use Rattle.theory.specs.Walks.{Walk}
 use Rattle.theory.proofs.Completions.{completes-sound, completes-complete, low-none, no-low}
 use Rattle.formats.specs.GraphSheet.{header, sheetRefusal}
 use Rattle.formats.proofs.Accepted.{accepted}
 use Rattle.calls.specs.SheetGraph.{graph}
-use Rattle.calls.specs.Area.{cellOf, byteOf, filled}
+use Rattle.calls.specs.Area.{byteOf, filled}
 use Rattle.calls.specs.Weigh.{Weighing, sheetArea, nothingFits, weighOrder, beforeWeighing, areaAfter, weighed}
 use Rattle.calls.specs.Build.{Lent, buildOrder, build}
-use Rattle.calls.specs.Moves.{Move, GuardedInput, moved, guardedOrder, guardedReply, guardedMove}
+use Rattle.calls.specs.Moves.{GuardedInput, moved, guardedOrder, guardedReply, guardedMove}
 use Rattle.calls.specs.Filled.{NineIsExact, Holds, WeighingFills, BuildFills, MoveFills}
 use Rattle.calls.proofs.SheetLaws.{well-formed}
 use Rattle.calls.proofs.Weigh.{weighs-late}

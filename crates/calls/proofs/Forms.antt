@@ -3,11 +3,11 @@
 use mathlib.Core.Path.{_≡_, refl, sym, ap, ap₂, subst, _∙_}
 use mathlib.Core.List.{List, [], _∷_, map}
 use Prim.Native.Nat.{ℕ}
-use Rattle.theory.specs.Machines.{End, Reply, answers, final, shown, Unchanged}
+use Rattle.theory.specs.Machines.{Reply, answers, final, shown}
 use Rattle.theory.specs.Walks.{Walk, starting}
 use Rattle.calls.specs.Moves.{Move, guardedReply, boundedMove}
 use Rattle.calls.specs.Construction.{builtWords}
-use Rattle.calls.specs.Demand.{Calls, byValue, KeepsDemand3, boundedBlock}
+use Rattle.calls.specs.Demand.{Calls, KeepsDemand3, boundedBlock}
 use Rattle.calls.proofs.Demand.{keeps-demand3}
 
 -- a step on a form and one on the walk that it stands for

@@ -11,7 +11,6 @@ use lib.Dec.{eqb}
 use lib.ListN.{length}
 use Rattle.base.specs.Lists.{chosen}
 use Rattle.base.specs.Checks.{Order, refused, over, lentAfter, outside}
-use Rattle.base.proofs.Truth.{not-both}
 use Rattle.base.proofs.Lists.{chosen-le, chosen-some}
 use Rattle.base.proofs.Orders.{Numbered, pick, tested, none-left, over-is, over-stops, over-passes, inside-of, not-outside, refused-lent}
 use Rattle.theory.specs.Completions.{lowOf}
@@ -22,7 +21,7 @@ use Rattle.formats.specs.BoundedSheet.{heading}
 use Rattle.formats.specs.Rule11.{boundedOrder, boundedRefusal}
 use Rattle.formats.proofs.RuleKept.{bounded-numbered}
 use Rattle.calls.specs.SheetGraph.{graph, readBounded}
-use Rattle.calls.specs.Weigh.{Weighing, sheetArea, weighOrder}
+use Rattle.calls.specs.Weigh.{sheetArea, weighOrder}
 use Rattle.calls.proofs.Weigh.{weigh-numbered, weighs}
 use Rattle.calls.specs.Moves.{outOfShape, Standing, moveOrder, moved, Move, GuardedInput, onGraph, guardedOrder, guardedReply}
 use Rattle.calls.specs.Moves.{BoundedInput, onBounded, boundedMoveOrder, boundedMove}

@@ -6,7 +6,6 @@ use mathlib.Core.List.{List, _∷_, map, List·Memᴰ, List·Memᴰ·head, List�
 use Prim.Native.Nat.{ℕ, suc, _-_, _≤_, _<_}
 use Rattle.base.specs.Lists.{any}
 use Rattle.base.proofs.Orders.{not-outside}
-use Rattle.formats.specs.Words.{follow}
 use Rattle.formats.specs.GraphSheet.{header, firstWord, targetWord, nextWord, chain, successors, sheetRefusal}
 use Rattle.formats.proofs.Chains.{follow-end, follow-out, follow-more}
 use Rattle.formats.proofs.Accepted.{accepted, edge-inside}

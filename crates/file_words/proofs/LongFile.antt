@@ -1,5 +1,5 @@
 -- A file that is longer than the longest graph sheet is refused by its header and its length alone, so its first words are enough.
--- Rests on base Truth and Orders, formats Limits, File and GraphSheet, graph_check Orders, specs Longer, Filled.
+-- Rests on base Truth and Orders, formats Limits, File and GraphSheet, specs Longer, Filled.
 use mathlib.Core.Path.{_≡_, refl, sym, ap, ap₂, _∙_}
 use mathlib.Core.Bool.{Bool, true, false, not}
 use mathlib.Core.List.{List, map}

@@ -8,7 +8,7 @@ use Rattle.theory.specs.Machines.{Reply}
 use Rattle.theory.specs.Walks.{Walk, starting}
 use Rattle.calls.specs.Moves.{moved, guardedReply, boundedMove}
 use Rattle.calls.proofs.Forms.{SameStep, Faithful, held-demand3}
-use Rattle.gilstavo.specs.WalkWords.{walkIn, walkWords}
+use Rattle.gilstavo.specs.WalkWords.{walkIn}
 use Rattle.gilstavo.specs.Steps.{inWords, guardedStep, boundedStep, onWords, WordsKeepDemand3}
 use Rattle.gilstavo.proofs.Words.{walk-back}
 

@@ -1,11 +1,11 @@
--- WHAT A LOOK-UP SAYS of the completions of a sheet's graph, for callers.
+-- WHAT A LOOK-UP SAYS of the completions of a sheet's graph, for callers: what is found is the largest.
 -- Rests on theory Completions, formats Accepted, calls SheetLaws.
 use mathlib.Core.Path.{_≡_, refl, sym, ap, _∙_}
 use mathlib.Core.List.{List}
 use Prim.Native.Nat.{ℕ, zero, suc, _≤_}
 use native.Mathlib.Omega.{arith}
-use Rattle.theory.specs.Completions.{IsLow, NoLow, lowOf}
-use Rattle.theory.proofs.Completions.{low-some, low-none}
+use Rattle.theory.specs.Completions.{IsLow, lowOf}
+use Rattle.theory.proofs.Completions.{low-some}
 use Rattle.formats.specs.GraphSheet.{sheetRefusal}
 use Rattle.formats.proofs.Accepted.{accepted}
 use Rattle.calls.specs.SheetGraph.{graph}
@@ -13,19 +13,7 @@ use Rattle.calls.proofs.SheetLaws.{well-formed}
 use Rattle.tables.specs.Tables.{optionOf}
 
 module _ (w : List ℕ) (ok : sheetRefusal w ≡ 0) (v r x : ℕ) (e : optionOf x ≡ lowOf (graph w) v r) where
-  -- 0: no completion costs at most r
-  pub nothing-below : x ≡ 0 → NoLow (graph w) v r
-  unfolding optionOf
-  nothing-below z = low-none (graph w) (well-formed w (accepted w ok)) v r (sym e ∙ ap optionOf z)
-
-  -- else one more than the largest completion cost at or below r
+  -- one more than the largest completion cost at or below r
   pub is-low : (a : ℕ) → x ≡ suc a → IsLow (graph w) v r a
   unfolding optionOf
   is-low a z = low-some (graph w) (well-formed w (accepted w ok)) v r a (sym e ∙ ap optionOf z)
-
-  pub low-bound : x ≤ suc r
-  low-bound = go x is-low
-    where
-      go : (y : ℕ) → ((a : ℕ) → y ≡ suc a → IsLow (graph w) v r a) → y ≤ suc r
-      go zero h = omega arith
-      go (suc a) h = omega (arith, h a refl .below)

@@ -2,5 +2,5 @@
 pub mod Scan
 -- an area that is the table of a graph: cell-rises, table-cell, table-low
 pub mod Read
--- what a look-up says, for callers: nothing-below, is-low, low-bound
+-- what a look-up says, for callers: is-low
 pub mod Laws

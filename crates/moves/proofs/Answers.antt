@@ -5,7 +5,6 @@ use mathlib.Core.Bool.{Bool, true, false}
 use mathlib.Core.List.{List}
 use Prim.Native.Nat.{ℕ}
 use Rattle.base.specs.Lists.{any, from, member}
-use Rattle.base.specs.Checks.{refused}
 use Rattle.theory.specs.Machines.{Reply, Machine, reply}
 use Rattle.theory.specs.Walks.{Walk, InShape, mostMoves, monitor, boundedWalk}
 use Rattle.formats.specs.GraphSheet.{header, sheetRefusal}

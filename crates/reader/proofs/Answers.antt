@@ -1,5 +1,5 @@
 -- The order 11, 33: what a call that hands out edge words answers and hands out.
--- Rests on base Orders, formats Rule11, graph_check Orders.
+-- Rests on base Orders, formats Rule11 and RuleKept, specs Placed.
 use mathlib.Core.Path.{_≡_, refl, sym, _∙_}
 use mathlib.Core.Bool.{Bool}
 use mathlib.Core.List.{List, []}

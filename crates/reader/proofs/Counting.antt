@@ -1,5 +1,5 @@
 -- A chain of a sheet that keeps rule 11, counted by a loop, and the place of its words in the sheet.
--- Rests on formats Reading, RuleRead and Parts, graph_check Chains.
+-- Rests on formats Reading, RuleRead, Parts and Chains, bounded_words Formed, specs Placed.
 use mathlib.Core.Path.{_≡_, refl, sym, ap, subst, _∙_}
 use mathlib.Core.List.{List, [], _∷_, List·Memᴰ, List·Memᴰ·head, List·Memᴰ·tail}
 use Prim.Native.Nat.{ℕ, suc, _+_, _*_, _-_, _≤_, _<_}

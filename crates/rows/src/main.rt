@@ -368,6 +368,18 @@ fn print_list(completions: &[u16], area: &mut [u8], sheet: &[u16], choices: [u16
     print_targets(sheet, u.place);
 }
 
+// The first choice again and again, until the walk has ended: on a built sheet within the most moves of any walk.
+fn run_out(sheet: &[u16]) -> Walk {
+    let mut w = Walk::start();
+    let mut left = Walk::MOST_MOVES;
+    while 0 < left {
+        let m = bounded_move(sheet, w, 1);
+        w = m.walk;
+        left -= 1;
+    }
+    w
+}
+
 fn print_lists(completions: &[u16], area: &mut [u8], sheet: &[u16]) {
     // no choice
     print_list(completions, area, sheet, [0, 0, 0, 0, 0, 0, 0, 0], 0);
@@ -387,4 +399,7 @@ fn main() {
     let mut sheet = [0u16; 40];
     build(&SHEET, &mut area, &mut sheet);
     print_lists(&completions, &mut area, &sheet);
+    let last = run_out(&sheet);
+    io::write_all(STDOUT_FILENO, b"first choices");
+    print_end(word(&sheet, 3 * wide(last.place)), last);
 }

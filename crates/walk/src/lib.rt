@@ -27,11 +27,7 @@ pub struct Moved {
 }
 
 impl Walk {
-    // the limits of a walk in shape: blocks of a graph sheet, copies of a bounded one, and one more move than the largest budget
-    pub const MOST_BLOCKS: usize = graph_words::MOST_BLOCKS;
-
-    pub const MOST_COPIES: usize = bounded_words::MOST_COPIES;
-
+    // the most moves of a walk on a built sheet, whatever its budget: "ends within B + 1 moves"
     pub const MOST_MOVES: usize = graph_words::MOST_BUDGET + 1;
 
     // "place 1, count 0"

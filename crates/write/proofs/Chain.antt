@@ -1,5 +1,5 @@
 -- The edge records of one copy, put edge by edge: what is put, then the records of the edges left, are the records of its chain.
--- Rests on formats Reading, chains Rest, number Edges, Put.
+-- Rests on formats Accepted and Chains, chains Rest, cells Cells, Put.
 use mathlib.Core.Path.{_≡_, refl, sym, ap, ap₂, _∙_}
 use mathlib.Core.List.{List, [], _∷_, map}
 use Prim.Native.Nat.{ℕ, suc, _+_, _-_, _*_, _≤_, _<_}

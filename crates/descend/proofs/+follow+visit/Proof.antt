@@ -1,4 +1,5 @@
--- The cycle of `descend::follow` and `descend::visit`. The measure is twice the cycles left, and 4 more for a chain.
+-- The cycle of `descend::follow` and `descend::visit`. The measure is twice x for a copy, where x is one more than its
+-- low, and twice the cycles left and 3 more for a chain.
 -- Rests on Copies, Marks, Edges, Trail.
 use mathlib.Core.Path.{refl, sym, ap, _∙_}
 use Prim.Native.Nat.{ℕ, _+_, _-_, _*_, _<_}
