@@ -16,7 +16,7 @@ use graph_words::HEADER_WORDS;
 use graph_words::is_outside;
 
 // 11 where the sheet breaks rule 11, then 33 for a copy outside 1 to C, else 0.
-pub fn edge_words_answer(s: &[u16], i: u16) -> u16
+fn edge_words_answer(s: &[u16], i: u16) -> u16
     ensures { λ r. ⌜ r ≡ handOut (now (s .entry)) i .answer ⌝ }
 {
     let a = check_bounded(s);
