@@ -16,9 +16,9 @@ pub fn guarded_move_in_place(s: &[u16], area: &mut [u8], w: &mut Walk, choice: u
     ensures { λ _. ⌜ now (area .exit)
         ≡ guardedMove (now (s .entry)) (walkOf (now (w .entry))) (record { choice = choice; area = now (area .entry) }) .area ⌝ }
 {
-    let m = guarded_move(s, area, *w, choice);
-    *w = m.walk;
-    m.answer
+    let g = guarded_move(s, area, *w, choice);
+    *w = g.walk;
+    g.answer
 }
 
 // A bounded move in place.
@@ -26,7 +26,7 @@ pub fn bounded_move_in_place(t: &[u16], w: &mut Walk, choice: u16) -> u16
     ensures { λ r. ⌜ r ≡ boundedMove (now (t .entry)) (walkOf (now (w .entry))) choice .answer ⌝ }
     ensures { λ _. ⌜ walkOf (now (w .exit)) ≡ boundedMove (now (t .entry)) (walkOf (now (w .entry))) choice .after ⌝ }
 {
-    let m = bounded_move(t, *w, choice);
-    *w = m.walk;
-    m.answer
+    let b = bounded_move(t, *w, choice);
+    *w = b.walk;
+    b.answer
 }

@@ -1,9 +1,9 @@
 // Gives lists of choices to three machines and prints their rows: the monitor, guarded moves on the graph sheet, bounded moves on the sheet
-// that the build filled. Rests on build, moves, reader, walk. The monitor here is plain code of its own, which finds completions by itself.
+// that the build filled. Rests on build, lent_steps, reader, walk. The monitor here is plain code of its own, which finds completions by itself.
 use build::build;
+use lent_steps::bounded_step;
+use lent_steps::guarded_step;
 use libc::STDOUT_FILENO;
-use moves::bounded_move;
-use moves::guarded_move;
 use reader::edge_words;
 use walk::End;
 use walk::Moved;
@@ -307,8 +307,8 @@ fn give(
         return m;
     }
     let a = monitor(&SHEET, completions, m.monitor, choice);
-    let b = guarded_move(&SHEET, area, m.guarded, choice);
-    let c = bounded_move(sheet, m.bounded, choice);
+    let b = guarded_step(&SHEET, area, m.guarded, choice);
+    let c = bounded_step(sheet, m.bounded, choice);
     let mut next = m;
     next.monitor_answers[j] = a.answer;
     next.guarded_answers[j] = b.answer;
@@ -373,7 +373,7 @@ fn run_out(sheet: &[u16]) -> Walk {
     let mut w = Walk::start();
     let mut left = Walk::MOST_MOVES;
     while 0 < left {
-        let m = bounded_move(sheet, w, 1);
+        let m = bounded_step(sheet, w, 1);
         w = m.walk;
         left -= 1;
     }

@@ -1,0 +1,39 @@
+// A move of a walk by value, made on a lent walk.
+// Rests on lent, whose moves change the walk where it stands; the promises are calls Moves.
+ghost use mathlib.Core.Path.{_≡_};
+ghost use Rattle.calls.specs.Moves.{guardedMove, boundedMove};
+ghost use Rattle.walk.specs.Walks.{walkOf};
+use lent::bounded_move_in_place;
+use lent::guarded_move_in_place;
+use walk::Moved;
+use walk::Walk;
+
+// A guarded move of a walk by value.
+pub fn guarded_step(s: &[u16], area: &mut [u8], w: Walk, choice: u16) -> Moved
+    ensures { λ r. ⌜ r .answer
+        ≡ guardedMove (now (s .entry)) (walkOf w) (record { choice = choice; area = now (area .entry) }) .answer ⌝ }
+    ensures { λ r. ⌜ walkOf (r .walk)
+        ≡ guardedMove (now (s .entry)) (walkOf w) (record { choice = choice; area = now (area .entry) }) .walk ⌝ }
+    ensures { λ _. ⌜ now (area .exit)
+        ≡ guardedMove (now (s .entry)) (walkOf w) (record { choice = choice; area = now (area .entry) }) .area ⌝ }
+{
+    let mut held = w;
+    let answer = guarded_move_in_place(s, area, &mut held, choice);
+    Moved {
+        answer: answer,
+        walk: held,
+    }
+}
+
+// A bounded move of a walk by value.
+pub fn bounded_step(t: &[u16], w: Walk, choice: u16) -> Moved
+    ensures { λ r. ⌜ r .answer ≡ boundedMove (now (t .entry)) (walkOf w) choice .answer ⌝ }
+    ensures { λ r. ⌜ walkOf (r .walk) ≡ boundedMove (now (t .entry)) (walkOf w) choice .after ⌝ }
+{
+    let mut held = w;
+    let answer = bounded_move_in_place(t, &mut held, choice);
+    Moved {
+        answer: answer,
+        walk: held,
+    }
+}
