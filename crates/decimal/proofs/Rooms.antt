@@ -1,6 +1,6 @@
 -- How long a sheet's text is at most: six bytes a word; and the answer of a call that writes it.
--- Rests on digits Decimals and NumberLine, specs Writing, All, Layouts.
-use mathlib.Core.Path.{_≡_, sym, ap, _∙_}
+-- Rests on digits Wrote, Due, Decimals and NumberLine, specs Writing, All, Layouts.
+use mathlib.Core.Path.{_≡_, sym, ap}
 use mathlib.Core.List.{List, [], _∷_, _++_, map}
 use Prim.Native.Nat.{ℕ, _*_, _≤_, _<_}
 use native.Mathlib.Omega.{arith}
@@ -11,6 +11,7 @@ use Rattle.formats.specs.Limits.{wordLimit}
 use Rattle.formats.specs.Listing.{decimal, line}
 use Rattle.digits.specs.Wrote.{Wrote}
 use Rattle.digits.specs.Spaced.{spaced}
+use Rattle.digits.proofs.Due.{wrote-as}
 use Rattle.digits.proofs.Decimals.{digits-5}
 use Rattle.digits.proofs.NumberLine.{newlineText, numbers-line}
 use Rattle.decimal.specs.Writing.{layout, linesText, sheetText, total, sheetRoom}
@@ -64,7 +65,7 @@ module _ (ws : List ℕ) (h : (i : ℕ) → getD ws i 0 < wordLimit) {ks : List 
       )
 
   pub sheet-ends : {old new : List ℕ} {r : ℕ} → sheetRoom ws ≤ length old → length new ≡ length old → Wrote old 0 (linesText ks ws) new r
-      → (take r new ≡ sheetText ws) × (r ≤ length new)
+      → Wrote old 0 (sheetText ws) new r × (r ≤ length new)
   unfolding sheetText
   sheet-ends l q W =
-      (W .front ∙ ap (λ (x : List ℕ). linesText x ws) (sym e), omega (arith, W .is-end, q, sheet-fits l))
+      (wrote-as W (ap (λ (x : List ℕ). linesText x ws) (sym e)), omega (arith, W .is-end, q, sheet-fits l))

@@ -1,5 +1,5 @@
 -- The loop over a text's bytes: one turn, its end, and the word that is still being read there.
--- Rests on digits Wrote, specs Reading, Bytes and Held, Modes, Turns.
+-- Rests on digits Wrote and Due, specs Reading, Bytes and Held, Modes, Turns.
 use mathlib.Core.Path.{_≡_, refl, sym, ap, subst, _∙_}
 use mathlib.Core.List.{List, [], _∷_, _++_}
 use Prim.Native.Nat.{ℕ, suc, _+_, _<_, _≤_}
@@ -10,12 +10,13 @@ use lib.Seq.{take-suc, take-all}
 use Rattle.base.specs.Lists.{each}
 use Rattle.formats.specs.Limits.{wordLimit}
 use Rattle.digits.specs.Wrote.{Wrote}
+use Rattle.digits.proofs.Due.{wrote-none}
 use Rattle.decimal.specs.declared.Reading.{Reading}
 use Rattle.decimal.specs.Reading.{Read, pending, flush, step, start, readOn, readWords}
 use Rattle.decimal.specs.Bytes.{bytesOf}
 use Rattle.decimal.specs.Held.{textLimit, modeOf, Holds, Turns}
 use Rattle.decimal.proofs.Modes.{mode-between}
-use Rattle.decimal.proofs.Turns.{holds-as, pending-two, pending-no, flushed-front}
+use Rattle.decimal.proofs.Turns.{holds-as, pending-two, pending-no, flushed}
 
 pub read-append : (r : Read) (xs ys : List ℕ) → readOn r (xs ++ ys) ≡ readOn (readOn r xs) ys
 unfolding readOn
@@ -27,7 +28,7 @@ module _ (text : List ℕ) where
   pub record Going (old out : List ℕ) (s : Reading) (i : ℕ) : Type 0 where
     pub inside : i ≤ length text
     pub same : length out ≡ length old
-    pub holds : Holds i (readOn start (take i text)) out s
+    pub holds : Holds old i (readOn start (take i text)) out s
 
   pub going-begins : (old : List ℕ) → Going old old (record { size = 0; line = 1; mode = wordLimit; fault = 0 }) 0
   unfolding start readOn bytesOf each
@@ -36,7 +37,7 @@ module _ (text : List ℕ) where
         inside = omega arith;
         same = refl;
         holds = record {
-          front = refl;
+          wrote = wrote-none old 0;
           is-line = refl;
           is-mode = mode-between;
           is-fault = refl;
@@ -64,16 +65,16 @@ module _ (text : List ℕ) where
         record {
           inside = omega arith;
           same = e ∙ G .same;
-          holds = subst (λ (n : ℕ). Holds n (readOn start (take n text)) new t) (sym p) (holds-as (T i _ (G .holds)) q);
+          holds = subst (λ (n : ℕ). Holds old n (readOn start (take n text)) new t) (sym p) (holds-as (T old i _ (G .holds)) q);
         }
 
-    pub going-ends : length text ≤ i → Holds (length text) (readOn start text) out s
+    pub going-ends : length text ≤ i → Holds old (length text) (readOn start text) out s
     going-ends l =
         let p : i ≡ length text = omega (arith, G .inside) in
-        holds-as (subst (λ (n : ℕ). Holds n (readOn start (take i text)) out s) p (G .holds)) (ap (readOn start) (sym (take-all i text l)))
+        holds-as (subst (λ (n : ℕ). Holds old n (readOn start (take i text)) out s) p (G .holds)) (ap (readOn start) (sym (take-all i text l)))
 
   -- the text's end
-  module _ {out : List ℕ} {s : Reading} (H : Holds (length text) (readOn start text) out s) (h : length text + 1 ≤ length out) where
+  module _ {old out : List ℕ} {s : Reading} (H : Holds old (length text) (readOn start text) out s) (h : length text + 1 ≤ length out) where
     pub last-room : s .mode < wordLimit → s .size + 2 ≤ length out
     last-room m = omega (arith, H .room m)
 
@@ -82,9 +83,9 @@ module _ (text : List ℕ) where
       unfolding readWords flush
       last-fault = H .is-fault
 
-      pub last-words : take p new ≡ bytesOf (readWords text .words)
+      pub last-words : Wrote old 0 (bytesOf (readWords text .words)) new p
       unfolding readWords
-      last-words = flushed-front H W
+      last-words = flushed H W
 
       pub last-inside : length new ≡ length out → p ≤ length new
       last-inside e = go (decLt (s .mode) wordLimit)

@@ -1,22 +1,23 @@
 -- One byte more: what each case of the reading leaves in the numbers and in the row.
--- Rests on digits Wrote, specs Reading, Bytes and Held, Modes.
+-- Rests on digits Wrote and Due, specs Reading, Bytes and Held, Modes.
 use mathlib.Core.Path.{_≡_, refl, sym, ap, subst, _∙_}
 use mathlib.Core.List.{List, _++_}
 use Prim.Native.Nat.{ℕ, suc, _+_, _<_, _≤_}
 use native.Mathlib.Omega.{arith}
 use native.Mathlib.Decide.{decLt}
-use lib.ListN.{length, take}
+use lib.ListN.{length}
 use Rattle.base.specs.Lists.{each}
 use Rattle.formats.specs.Limits.{wordLimit}
 use Rattle.digits.specs.Wrote.{Wrote}
+use Rattle.digits.proofs.Due.{wrote-as, wrote-then}
 use Rattle.decimal.specs.declared.Reading.{Reading}
 use Rattle.decimal.specs.Reading.{Mode, within, Read, pending, flush, become, nextLine, faulty}
 use Rattle.decimal.specs.Bytes.{bytesOf}
 use Rattle.decimal.specs.Held.{modeOf, Holds}
 use Rattle.decimal.proofs.Modes.{mode-within, mode-between, pending-bytes, pending-none, bytes-append}
 
-pub holds-as : {i : ℕ} {r q : Read} {row : List ℕ} {s : Reading} → Holds i r row s → q ≡ r → Holds i q row s
-holds-as {i} {row = row} {s} H e = subst (λ (x : Read). Holds i x row s) (sym e) H
+pub holds-as : {old : List ℕ} {i : ℕ} {r q : Read} {row : List ℕ} {s : Reading} → Holds old i r row s → q ≡ r → Holds old i q row s
+holds-as {old} {i} {row = row} {s} H e = subst (λ (x : Read). Holds old i x row s) (sym e) H
 
 -- what a flush writes has at most two bytes
 pub pending-two : (m : ℕ) → m < wordLimit → length (bytesOf (pending (modeOf m))) ≡ 2
@@ -26,12 +27,12 @@ pub pending-no : (m : ℕ) → wordLimit ≤ m → length (bytesOf (pending (mod
 unfolding bytesOf each
 pending-no m l = ap (λ (w : List ℕ). length (bytesOf w)) (pending-none m l)
 
-module _ {i : ℕ} {r : Read} {row : List ℕ} {s : Reading} (H : Holds i r row s) where
+module _ {old : List ℕ} {i : ℕ} {r : Read} {row : List ℕ} {s : Reading} (H : Holds old i r row s) where
   -- nothing changes
-  pub stays : Holds (suc i) r row s
+  pub stays : Holds old (suc i) r row s
   stays =
       record {
-        front = H .front;
+        wrote = H .wrote;
         is-line = H .is-line;
         is-mode = H .is-mode;
         is-fault = H .is-fault;
@@ -40,11 +41,11 @@ module _ {i : ℕ} {r : Read} {row : List ℕ} {s : Reading} (H : Holds i r row 
         room = λ l. omega (arith, H .most);
       }
 
-  pub faults : {t : Reading} → t ≡ record { size = s .size; line = s .line; mode = s .mode; fault = s .line } → Holds (suc i) (faulty r) row t
+  pub faults : {t : Reading} → t ≡ record { size = s .size; line = s .line; mode = s .mode; fault = s .line } → Holds old (suc i) (faulty r) row t
   faults {t} e =
-      subst (λ (x : Reading). Holds (suc i) (faulty r) row x) (sym e)
+      subst (λ (x : Reading). Holds old (suc i) (faulty r) row x) (sym e)
       (record {
-        front = H .front;
+        wrote = H .wrote;
         is-line = H .is-line;
         is-mode = H .is-mode;
         is-fault = H .is-line;
@@ -54,10 +55,10 @@ module _ {i : ℕ} {r : Read} {row : List ℕ} {s : Reading} (H : Holds i r row 
       })
 
   pub values : (n : ℕ) → n < wordLimit
-      → Holds (suc i) (become (within n) r) row (record { size = s .size; line = s .line; mode = n; fault = s .fault })
+      → Holds old (suc i) (become (within n) r) row (record { size = s .size; line = s .line; mode = n; fault = s .fault })
   values n l =
       record {
-        front = H .front;
+        wrote = H .wrote;
         is-line = H .is-line;
         is-mode = mode-within n l;
         is-fault = H .is-fault;
@@ -68,12 +69,11 @@ module _ {i : ℕ} {r : Read} {row : List ℕ} {s : Reading} (H : Holds i r row 
 
   -- a word is done
   module _ {new : List ℕ} {p : ℕ} (W : Wrote row (s .size) (bytesOf (pending (modeOf (s .mode)))) new p) where
-    pub flushed-front : take p new ≡ bytesOf (flush r .words)
+    pub flushed : Wrote old 0 (bytesOf (flush r .words)) new p
     unfolding flush
-    flushed-front =
-        W .front ∙ ap (λ (w : List ℕ). w ++ bytesOf (pending (modeOf (s .mode)))) (H .front)
-        ∙ ap (λ (m : Mode). bytesOf (r .words) ++ bytesOf (pending m)) (H .is-mode)
-        ∙ sym (bytes-append (r .words) (pending (r .mode)))
+    flushed =
+        wrote-as (wrote-then (H .wrote) W)
+        (ap (λ (m : Mode). bytesOf (r .words) ++ bytesOf (pending m)) (H .is-mode) ∙ sym (bytes-append (r .words) (pending (r .mode))))
 
     pub flushed-most : p ≤ suc i
     flushed-most = go (decLt (s .mode) wordLimit)
@@ -84,11 +84,11 @@ module _ {i : ℕ} {r : Read} {row : List ℕ} {s : Reading} (H : Holds i r row 
 
     -- into another mode outside a word
     pub flushes : (m : ℕ) → wordLimit ≤ m
-        → Holds (suc i) (become (modeOf m) (flush r)) new (record { size = p; line = s .line; mode = m; fault = s .fault })
+        → Holds old (suc i) (become (modeOf m) (flush r)) new (record { size = p; line = s .line; mode = m; fault = s .fault })
     unfolding flush
     flushes m l =
         record {
-          front = flushed-front;
+          wrote = flushed;
           is-line = H .is-line;
           is-mode = refl;
           is-fault = H .is-fault;
@@ -97,11 +97,11 @@ module _ {i : ℕ} {r : Read} {row : List ℕ} {s : Reading} (H : Holds i r row 
           room = λ k. absurd (omega arith);
         }
 
-    pub next-line : Holds (suc i) (nextLine (flush r)) new (record { size = p; line = s .line + 1; mode = wordLimit; fault = s .fault })
+    pub next-line : Holds old (suc i) (nextLine (flush r)) new (record { size = p; line = s .line + 1; mode = wordLimit; fault = s .fault })
     unfolding flush
     next-line =
         record {
-          front = flushed-front;
+          wrote = flushed;
           is-line = omega (arith, H .is-line);
           is-mode = mode-between;
           is-fault = H .is-fault;

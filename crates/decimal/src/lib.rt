@@ -1,9 +1,9 @@
 // Sheets as text: decimal words read into a sheet's bytes, and a row of words written as lines of decimal words.
-// Rests on formats and digits; the promises are equations with specs Reading, Bytes and Writing.
+// Rests on formats and digits; the promises say the whole row, by digits Wrote and specs Reading, Bytes and Writing.
 ghost use mathlib.Core.Path.{_≡_};
 ghost use mathlib.Core.List.{List, map};
 ghost use Prim.Native.Nat.{ℕ, _+_, _*_, _<_, _≤_};
-ghost use lib.ListN.{length, take, replicate};
+ghost use lib.ListN.{length, replicate};
 ghost use Rattle.base.specs.Lists.{each};
 ghost use Rattle.formats.specs.Listing.{decimal, line};
 ghost use Rattle.formats.specs.Limits.{wordLimit};
@@ -195,7 +195,7 @@ fn take_byte(out: &mut [u8], s: Reading, b: u8) -> Reading
 fn take_bytes(text: &[u8], out: &mut [u8]) -> Reading
     requires { ⌜ length (now text) ≤ textLimit ⌝ }
     requires { ⌜ length (now text) + 1 ≤ length (now out) ⌝ }
-    ensures { λ r. ⌜ Holds (length (now (text .entry))) (readOn start (now (text .entry))) (now (out .exit)) r ⌝ }
+    ensures { λ r. ⌜ Holds (now (out .entry)) (length (now (text .entry))) (readOn start (now (text .entry))) (now (out .exit)) r ⌝ }
 {
     let mut s = Reading {
         size: 0,
@@ -216,7 +216,7 @@ pub fn encode(text: &[u8], out: &mut [u8]) -> Encoded
     requires { ⌜ length (now text) ≤ textLimit ⌝ }
     requires { ⌜ length (now text) + 1 ≤ length (now out) ⌝ }
     ensures { λ r. ⌜ r .fault ≡ readWords (now (text .entry)) .fault ⌝ }
-    ensures { λ r. ⌜ take (r .size) (now (out .exit)) ≡ bytesOf (readWords (now (text .entry)) .words) ⌝ }
+    ensures { λ r. ⌜ Wrote (now (out .entry)) 0 (bytesOf (readWords (now (text .entry)) .words)) (now (out .exit)) (r .size) ⌝ }
     ensures { λ r. ⌜ r .size ≤ length (now (out .exit)) ⌝ }
 {
     let s = take_bytes(text, out);
@@ -291,7 +291,7 @@ fn put_records(ws: &[u16], n: usize, k: usize, at: usize, e: usize, text: &mut [
 // Writes a row of words as lines of decimal words, and answers the length of the text.
 pub fn decode(ws: &[u16], text: &mut [u8]) -> usize
     requires { ⌜ sheetRoom (now ws) ≤ length (now text) ⌝ }
-    ensures { λ r. ⌜ (take r (now (text .exit)) ≡ sheetText (now (ws .entry))) × (r ≤ length (now (text .exit))) ⌝ }
+    ensures { λ r. ⌜ Wrote (now (text .entry)) 0 (sheetText (now (ws .entry))) (now (text .exit)) r × (r ≤ length (now (text .exit))) ⌝ }
 {
     let size = ws.len();
     if size < HEADER_WORDS {

@@ -12,14 +12,14 @@ use lib.Seq.{take-all, take-at}
 use Rattle.base.specs.Checks.{refused}
 use Rattle.base.proofs.Orders.{append-stops}
 use Rattle.formats.specs.GraphSheet.{sheetOrder, sheetRefusal}
-use Rattle.formats.specs.File.{wordsOf}
+use Rattle.formats.specs.File.{wordsOf, oddBytes}
 use Rattle.formats.specs.Listing.{listingOf, refusalOf}
 use Rattle.calls.specs.SheetGraph.{boundedSheet}
 use Rattle.calls.specs.Program.{listingOrder, sheetListing, listing}
 use Rattle.file_words.specs.Longer.{longerFile}
 use Rattle.file_words.proofs.Filled.{first, first-length}
 use Rattle.file_words.proofs.LongFile.{long-file}
-use Rattle.list.specs.Whole.{Lists}
+use Rattle.list.specs.Whole.{listingFrom}
 
 -- A GRAPH SHEET
 module _ (w : List ℕ) where
@@ -65,14 +65,20 @@ module _ {A : Type 0} (f : List ℕ → A)
           let b = append-stops sheetOrder _ w (λ z. r .1 (r .0 ∙ z)) in
           sym (same v w (a ∙ r .0 ∙ sym b) (λ z. r .1 (sym a ∙ z)))
 
-module _ (bs t : List ℕ) where
-  pub lists-odd : {odd : Bool} → odd ≡ true → t ≡ refusalOf 1 → Lists bs odd t
-  unfolding listing
-  lists-odd q e = record { whole = λ fs p o. rw (sym o ∙ q, listing) e }
+module _ (bs : List ℕ) {odd : Bool} where
+  pub odd-listed : odd ≡ true → refusalOf 1 ≡ listingFrom bs odd
+  unfolding listingFrom
+  odd-listed q = rw (q, listingFrom)
 
-  pub lists-even : {odd : Bool} → odd ≡ false → t ≡ sheetListing (wordsOf bs) → Lists bs odd t
-  unfolding listing
-  lists-even q e = record {
-    whole = λ fs p o.
-        rw (sym o ∙ q, listing) (e ∙ ap (λ (x : List ℕ). sheetListing (wordsOf x)) p ∙ front-same sheetListing same-listing fs);
-  }
+  pub even-listed : odd ≡ false → sheetListing (wordsOf bs) ≡ listingFrom bs odd
+  unfolding listingFrom
+  even-listed q = rw (q, listingFrom)
+
+-- as much of a file as is read gives the listing of the whole
+pub listed-whole : (fs : List ℕ) → listingFrom (take longerFile fs) (oddBytes fs) ≡ listing fs
+unfolding listing listingFrom
+listed-whole fs = go (oddBytes fs) refl
+  where
+    go : (b : Bool) → oddBytes fs ≡ b → listingFrom (take longerFile fs) (oddBytes fs) ≡ listing fs
+    go true e = rw (e, listing, listingFrom)
+    go false e = rw (e, listing, listingFrom) (front-same sheetListing same-listing fs)

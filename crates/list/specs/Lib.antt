@@ -1,4 +1,4 @@
 -- the rows of a listing: mostCells, mostWords, frontSheet
 pub mod Rows
--- the listing of a whole file, from its first bytes: Lists
+-- the listing of a file, from its first bytes: listingFrom
 pub mod Whole

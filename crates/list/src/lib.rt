@@ -1,16 +1,17 @@
 // The listing of a file, on slices: below the program, which reads the file and writes the text.
-// Rests on file_words, build, text; the promise is calls Program `listing`, of the whole file.
+// Rests on file_words, build, text; the text is calls Program `listing` of the whole file (proofs Files).
 ghost use mathlib.Core.Path.{_≡_};
 ghost use Prim.Native.Nat.{_≤_};
-ghost use lib.ListN.{length, take};
+ghost use lib.ListN.{length};
 ghost use Rattle.formats.specs.BoundedSheet.{heading, boundedLength};
 ghost use Rattle.formats.specs.Rule11.{boundedRefusal};
 ghost use Rattle.formats.specs.Listing.{listingOf};
 ghost use Rattle.calls.specs.Program.{sheetListing};
 ghost use Rattle.file_words.specs.Longer.{longerFile};
+ghost use Rattle.digits.specs.Wrote.{Wrote};
 ghost use Rattle.text.specs.Texts.{listingRoom};
 ghost use Rattle.list.specs.Rows.{mostCells, mostWords, frontSheet};
-ghost use Rattle.list.specs.Whole.{Lists};
+ghost use Rattle.list.specs.Whole.{listingFrom};
 use bounded_words::MOST_BOUNDED_EDGES;
 use bounded_words::MOST_COPIES;
 use bounded_words::copies;
@@ -45,7 +46,7 @@ fn list_built(row: &[u16], text: &mut [u8]) -> usize
     requires { ⌜ boundedLength (heading (now row)) ≤ length (now row) ⌝ }
     requires { ⌜ boundedRefusal (frontSheet (now row)) ≡ 0 ⌝ }
     requires { ⌜ listingRoom ≤ length (now text) ⌝ }
-    ensures { λ r. ⌜ (take r (now (text .exit)) ≡ listingOf (frontSheet (now (row .entry)))) × (r ≤ length (now (text .exit))) ⌝ }
+    ensures { λ r. ⌜ Wrote (now (text .entry)) 0 (listingOf (frontSheet (now (row .entry)))) (now (text .exit)) r × (r ≤ length (now (text .exit))) ⌝ }
 {
     let s = front_sheet(row);
     write_listing(s, text)
@@ -55,7 +56,7 @@ fn list_built(row: &[u16], text: &mut [u8]) -> usize
 fn list_in_rows(words: &[u16], area: &mut [u8], out: &mut [u16], text: &mut [u8]) -> usize
     requires { ⌜ (mostCells ≤ length (now area)) × (mostWords ≤ length (now out)) ⌝ }
     requires { ⌜ listingRoom ≤ length (now text) ⌝ }
-    ensures { λ r. ⌜ (take r (now (text .exit)) ≡ sheetListing (now (words .entry))) × (r ≤ length (now (text .exit))) ⌝ }
+    ensures { λ r. ⌜ Wrote (now (text .entry)) 0 (sheetListing (now (words .entry))) (now (text .exit)) r × (r ≤ length (now (text .exit))) ⌝ }
 {
     let a = build(words, area, out);
     if a != 0 {
@@ -67,7 +68,7 @@ fn list_in_rows(words: &[u16], area: &mut [u8], out: &mut [u16], text: &mut [u8]
 // The listing of a graph sheet; the rows are local, once.
 fn list_words(words: &[u16], text: &mut [u8]) -> usize
     requires { ⌜ listingRoom ≤ length (now text) ⌝ }
-    ensures { λ r. ⌜ (take r (now (text .exit)) ≡ sheetListing (now (words .entry))) × (r ≤ length (now (text .exit))) ⌝ }
+    ensures { λ r. ⌜ Wrote (now (text .entry)) 0 (sheetListing (now (words .entry))) (now (text .exit)) r × (r ≤ length (now (text .exit))) ⌝ }
 {
     let mut area = [0u8; MOST_CELLS];
     let mut out = [0u16; MOST_WORDS];
@@ -78,8 +79,7 @@ fn list_words(words: &[u16], text: &mut [u8]) -> usize
 pub fn list_file(bytes: &[u8], odd: bool, text: &mut [u8]) -> usize
     requires { ⌜ length (now bytes) ≤ longerFile ⌝ }
     requires { ⌜ listingRoom ≤ length (now text) ⌝ }
-    ensures { λ r. ⌜ r ≤ length (now (text .exit)) ⌝ }
-    ensures { λ r. ⌜ Lists (now (bytes .entry)) odd (take r (now (text .exit))) ⌝ }
+    ensures { λ r. ⌜ Wrote (now (text .entry)) 0 (listingFrom (now (bytes .entry)) odd) (now (text .exit)) r × (r ≤ length (now (text .exit))) ⌝ }
 {
     if odd {
         return write_refusal(1, text);

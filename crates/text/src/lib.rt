@@ -1,8 +1,8 @@
 // The text of a listing, written into a lent row of bytes.
-// Rests on bounded_words and digits; the promises are equations with formats Listing.
+// Rests on bounded_words and digits; the promises say the whole row, by digits Wrote and formats Listing.
 ghost use mathlib.Core.Path.{_≡_};
 ghost use Prim.Native.Nat.{_+_, _≤_};
-ghost use lib.ListN.{length, take};
+ghost use lib.ListN.{length};
 ghost use Rattle.formats.specs.BoundedSheet.{heading};
 ghost use Rattle.formats.specs.Rule11.{boundedRefusal};
 ghost use Rattle.formats.specs.Listing.{headingLine, copyLine, listingOf, refusalOf};
@@ -102,7 +102,7 @@ fn write_copies(s: &[u16], text: &mut [u8], at: usize) -> usize
 pub fn write_listing(s: &[u16], text: &mut [u8]) -> usize
     requires { ⌜ boundedRefusal (now s) ≡ 0 ⌝ }
     requires { ⌜ listingRoom ≤ length (now text) ⌝ }
-    ensures { λ r. ⌜ (take r (now (text .exit)) ≡ listingOf (now (s .entry))) × (r ≤ length (now (text .exit))) ⌝ }
+    ensures { λ r. ⌜ Wrote (now (text .entry)) 0 (listingOf (now (s .entry))) (now (text .exit)) r × (r ≤ length (now (text .exit))) ⌝ }
 {
     let p = write_heading(s, text);
     write_copies(s, text, p)
@@ -111,7 +111,7 @@ pub fn write_listing(s: &[u16], text: &mut [u8]) -> usize
 // Writes the text of a refusal, and answers its length.
 pub fn write_refusal(n: u16, text: &mut [u8]) -> usize
     requires { ⌜ refusalRoom ≤ length (now text) ⌝ }
-    ensures { λ r. ⌜ (take r (now (text .exit)) ≡ refusalOf n) × (r ≤ length (now (text .exit))) ⌝ }
+    ensures { λ r. ⌜ Wrote (now (text .entry)) 0 (refusalOf n) (now (text .exit)) r × (r ≤ length (now (text .exit))) ⌝ }
 {
     let p = put_named(text, 0, b"refused", n as usize);
     put_byte(text, p, NEWLINE)

@@ -23,7 +23,7 @@ list-file-requires c κs =
     (take-most n longerFile _ l, search needs)
 
 slice-aggregate-write-all : tie.Need-slice-aggregate-write-all
-slice-aggregate-write-all c = part-count _ _ (omega (arith, c .before .before .before .before .list-file .ensures .0))
+slice-aggregate-write-all c = part-count _ _ (omega (arith, c .before .before .before .before .list-file .ensures .1))
 
 pub list-sheet-spec : {M : Type 1} → statement M
 list-sheet-spec =

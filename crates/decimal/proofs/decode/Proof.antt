@@ -5,7 +5,7 @@ use mathlib.Core.List.{List}
 use Prim.Native.Nat.{ℕ, _+_, _*_, _<_, _≤_}
 use native.Mathlib.Omega.{arith}
 use borrow.Author.Needs.{needs}
-use lib.ListN.{length, getD, take, replicate}
+use lib.ListN.{length, getD, replicate}
 use Rattle.formats.specs.Limits.{wordLimit}
 use Rattle.digits.specs.Wrote.{Wrote}
 use Rattle.decimal.specs.Writing.{records, layout, linesText, sheetText}
@@ -31,7 +31,7 @@ module _ (k : tie.After-shared-slice-known) where
   fits e = sheet-fits words given e (k .before .pre)
 
   ends : {ks : List ℕ} → layout words ≡ ks → {new : List ℕ} {r : ℕ} → length new ≡ length text → Wrote text 0 (linesText ks words) new r
-      → (take r new ≡ sheetText words) × (r ≤ length new)
+      → Wrote text 0 (sheetText words) new r × (r ≤ length new)
   ends e = sheet-ends words given e (k .before .pre)
 
 -- where the header has been read

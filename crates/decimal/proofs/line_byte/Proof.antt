@@ -15,7 +15,7 @@ returns : tie.Need-returns
 returns c =
     let d = c .before .before .before .before in
     let z = d .before .before in
-    λ i r H. holds-as (flushes H (c .before .before .flush .ensures) 65537 (omega arith))
+    λ old i r H. holds-as (flushes H (c .before .before .flush .ensures) 65537 (omega arith))
     (line-hash r (z .args .b) (d .if1 .taken)
     ∙ ap {B = Read} (λ (m : Mode). become m (flush r)) (sym (mode-comment 65537 (omega arith))))
 
@@ -24,7 +24,7 @@ unfolding flush
 returns-2 c =
     let d = c .before .before .before .before .before in
     let z = d .before .before .before in
-    λ i r H. holds-as (flushes H (c .before .before .flush2 .ensures) wordLimit (omega arith))
+    λ old i r H. holds-as (flushes H (c .before .before .flush2 .ensures) wordLimit (omega arith))
     (line-blank r (z .args .b) (d .before .if1 .left) (sym (d .is-blank .ensures) ∙ c .before .before .before .before .if2 .taken)
     ∙ ap {B = Read} (λ (m : Mode). become m (flush r)) (sym mode-between))
 
@@ -32,7 +32,7 @@ returns-3 : tie.Need-returns-3
 returns-3 c =
     let d = c .before .before in
     let z = d .before .before .before in
-    λ i r H. holds-as (c .word-byte .ensures _ i r H)
+    λ old i r H. holds-as (c .word-byte .ensures _ old i r H)
     (line-word r (z .args .b) (d .before .if1 .left) (sym (d .is-blank .ensures) ∙ c .before .if2 .left))
 
 pub line-byte-spec : {M : Type 1} → statement M

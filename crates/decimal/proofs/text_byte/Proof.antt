@@ -14,20 +14,20 @@ returns : tie.Need-returns
 returns c =
     let d = c .before .before .before .before .before in
     let z = d .before .before in
-    λ i r H. holds-as (next-line H (c .before .before .before .flush .ensures)) (text-newline r (z .args .b) (d .if1 .taken))
+    λ old i r H. holds-as (next-line H (c .before .before .before .flush .ensures)) (text-newline r (z .args .b) (d .if1 .taken))
 
 returns-2 : tie.Need-returns-2
 returns-2 c =
     let d = c .before .before in
     let z = d .before .before in
-    λ i r H. holds-as (stays H)
+    λ old i r H. holds-as (stays H)
     (text-comment r (z .args .b) (d .if1 .left) (ap inComment (sym (H .is-mode)) ∙ comment-yes (z .args .s .mode) (omega (arith, c .if2 .taken))))
 
 returns-3 : tie.Need-returns-3
 returns-3 c =
     let d = c .before .before .before .before in
     let z = d .before .before .before .before in
-    λ i r H. holds-as (c .before .before .line-byte .ensures i r H)
+    λ old i r H. holds-as (c .before .before .line-byte .ensures old i r H)
     (text-line r (z .args .b) (d .before .before .if1 .left)
     (ap inComment (sym (H .is-mode)) ∙ comment-no (z .args .s .mode) (omega (arith, d .if2 .left))))
 

@@ -1,5 +1,5 @@
 -- `list::list_file` meets its contract: an odd file is refused with 1, of any other the words are listed.
--- Rests on file_words `words_of`, Files.
+-- Rests on file_words `words_of`, digits Due, Files.
 use mathlib.Core.Path.{sym, ap, _∙_}
 use Prim.Native.Nat.{_/_, _≤_}
 use native.Mathlib.Omega.{arith}
@@ -7,7 +7,8 @@ use borrow.Author.Needs.{needs}
 use lib.ListN.{length, length-replicate}
 use lib.Seq.{length-take-le}
 use Rattle.calls.specs.Program.{sheetListing}
-use Rattle.list.proofs.Files.{words-first, lists-odd, lists-even}
+use Rattle.digits.proofs.Due.{wrote-as}
+use Rattle.list.proofs.Files.{words-first, odd-listed, even-listed}
 use Rattle.list.proofs.list_file.Statement.{statement}
 use Rattle.list.proofs.list_file.Tie as tie
 
@@ -15,7 +16,7 @@ returns : tie.Need-returns
 returns c =
     let f = c .before .before .before .before in
     let r = c .before .before .write-refusal .ensures in
-    (r .1, lists-odd (f .before .before .before .args .bytes .now) _ (f .if1 .taken) (r .0))
+    (wrote-as (r .0) (odd-listed (f .before .before .before .args .bytes .now) (f .if1 .taken)), r .1)
 
 words-of-requires : tie.Need-words-of-requires
 words-of-requires c κs =
@@ -30,7 +31,7 @@ returns-2 c =
     let bytes = f .before .before .before .args .bytes .now in
     let r = c .before .before .list-words .ensures in
     let front = words-first bytes _ _ _ (w .words-of .ensures .1) (w .words-of .ensures .0) in
-    (r .1, lists-even bytes _ (f .if1 .left) (r .0 ∙ ap sheetListing front))
+    (wrote-as (r .0) (ap sheetListing front ∙ even-listed bytes (f .if1 .left)), r .1)
 
 pub list-file-spec : {M : Type 1} → statement M
 list-file-spec =

@@ -7,7 +7,7 @@ use Rattle.listing.proofs.main.Statement.{statement}
 use Rattle.listing.proofs.main.Tie as tie
 
 slice-aggregate-write-all : tie.Need-slice-aggregate-write-all
-slice-aggregate-write-all c = sym (length-take-le _ _ (c .before .before .list-file .ensures .0))
+slice-aggregate-write-all c = sym (length-take-le _ _ (c .before .before .list-file .ensures .1))
 
 pub main-spec : {M : Type 1} → statement M
 main-spec =

@@ -29,7 +29,7 @@ returns c =
     let first = c .before .before .before .before .before .before in
     let z = first .before .before .before .before in
     let W = wrote-then (first .write-heading .ensures) (lines .ensures) in
-    (W .front, omega (arith, W .is-end, lines .kept .1 .0, first .write-heading .kept .1 .0, listing-fits (z .args .s .now) (z .pre .0)))
+    (W, omega (arith, W .is-end, lines .kept .1 .0, first .write-heading .kept .1 .0, listing-fits (z .args .s .now) (z .pre .0)))
 
 pub write-listing-spec : {M : Type 1} → statement M
 write-listing-spec = tie.close (tie.spec write-heading-requires write-copies-requires (λ c. search needs) returns)

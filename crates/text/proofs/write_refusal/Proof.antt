@@ -26,7 +26,7 @@ returns c =
     let put = c .before .before .put-byte in
     let n = x .before .before .before .before .args .n in
     let W = wrote-as (wrote-then (x .put-named .ensures) (put .ensures)) (sym (refusal-is n)) in
-    (W .front, omega (arith, W .is-end, x .put-named .kept .0, put .kept .0, refusal-fits n (omega arith)))
+    (W, omega (arith, W .is-end, x .put-named .kept .0, put .kept .0, refusal-fits n (omega arith)))
 
 pub write-refusal-spec : {M : Type 1} → statement M
 write-refusal-spec =
