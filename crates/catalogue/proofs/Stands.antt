@@ -1,5 +1,5 @@
 -- What a tally and the marks stand for with one sheet more, from what is said of it; and with no sheet.
--- Rests on formats Limits and Report, tally Tallies, figures Says, specs Standing, Marks, More.
+-- Rests on formats Limits and Report, digits Due, tally Tallies, figures Says, specs Standing, Marks, More.
 use mathlib.Core.Path.{_≡_, refl, sym, ap, subst, _∙_}
 use mathlib.Core.Logic.{_⊎_, inl, inr}
 use mathlib.Core.Bool.{Bool, true, false, _&&_, not}
@@ -15,6 +15,7 @@ use Rattle.base.proofs.Truth.{and-e}
 use Rattle.formats.specs.Limits.{mostBlocks, mostSheets}
 use Rattle.formats.specs.Report.{Figures, Sums, noSums, plus, sums, Most, noMost, greater, mostOf, most, sheetLine}
 use Rattle.calls.specs.Report.{figures}
+use Rattle.digits.proofs.Due.{wrote-as}
 use Rattle.unused.specs.Marks.{markedBlocks}
 use Rattle.tally.specs.declared.Tally.{Tally}
 use Rattle.tally.specs.Tallies.{sumsOf, mostFrom, figured, Tallied}
@@ -40,8 +41,8 @@ unfolding greater mostOf
 most-by m k f e p q = rw (p, q)
 
 -- what is said of a sheet from its first bytes is said of the sheet
-said : {bs part text : List ℕ} {cut : Bool} {o : Option (List ℕ)} {k : ℕ} {r : Reported} → Front bs cut o → Reports bs cut k r part text
-    → Says (figures o) k r part text
+said : {bs part row text : List ℕ} {cut : Bool} {o : Option (List ℕ)} {k : ℕ} {r : Reported} → Front bs cut o
+    → Reports bs cut k r part row text → Says (figures o) k r part row text
 said beyond R = R .beyond refl
 said (whole fs e) R = R .whole fs refl e
 
@@ -52,7 +53,7 @@ putMarks p old part rest = take (p * mostBlocks) old ++ (part ++ rest)
 -- of which r is said
 module _ (t t′ : Tally) (r : Reported) (old part rest : List ℕ) (T : Tallied (figured (r .blocks) (r .copies) (r .edges)) t t′)
     (room : t .place * mostBlocks ≤ length old) (size : length part ≡ mostBlocks) where
-  stands-after : {k : ℕ} {text : List ℕ} (fs : List Figures) (f : Figures) → Standing fs t old → Says f k r part text
+  stands-after : {k : ℕ} {row text : List ℕ} (fs : List Figures) (f : Figures) → Standing fs t old → Says f k r part row text
       → Standing (fs ++ (f ∷ [])) t′ (putMarks (t .place) old part rest)
   stands-after fs f D S = record {
     place = omega (arith, T .place, D .place, length-append fs (f ∷ []));
@@ -77,18 +78,18 @@ module _ (t t′ : Tally) (r : Reported) (old part rest : List ℕ) (T : Tallied
           ap (λ (j : ℕ). markedBlocks (marksOf j (putMarks (t .place) old part rest))) (x .0 ∙ sym (D .place))
           ∙ ap markedBlocks (own-marks (t .place) old part rest room size) ∙ S .unused ∙ ap (λ (h : Figures). h .unused) (x .1)
 
-  pub next-of : {bs text : List ℕ} {cut more : Bool} → Reports bs cut (t .place + 1) r part text
+  pub next-of : {bs row text : List ℕ} {cut more : Bool} → Reports bs cut (t .place + 1) r part row text
       → more ≡ (not cut && ltb (t′ .place) mostSheets)
-      → Next bs cut t old (record { tally = t′; size = r .size; more = more }) (putMarks (t .place) old part rest) text
+      → Next bs cut t old (record { tally = t′; size = r .size; more = more }) (putMarks (t .place) old part rest) row text
   next-of R e = record {
     line = λ fs o D F.
         let p : t .place + 1 ≡ suc (length fs) = omega (arith, D .place) in
-        said F R .line ∙ ap (λ (k : ℕ). sheetLine k (figures o)) p;
+        wrote-as (said F R .line) (ap (λ (k : ℕ). sheetLine k (figures o)) p);
     after = λ fs o D F. stands-after fs (figures o) D (said F R);
     more = e;
   }
 
 -- where another sheet may come, there is room for it
-pub room-left : {bs old new text : List ℕ} {cut : Bool} {t : Tally} {r : Step} → Next bs cut t old r new text → r .more ≡ true
+pub room-left : {bs old new row text : List ℕ} {cut : Bool} {t : Tally} {r : Step} → Next bs cut t old r new row text → r .more ≡ true
     → r .tally .place < mostSheets
 room-left {cut = cut} {r = r} N e = ltb-true (r .tally .place) mostSheets (and-e (not cut) (ltb (r .tally .place) mostSheets) (sym (N .more) ∙ e) .1)

@@ -49,7 +49,7 @@ run-stands (more {os = os} {o = o} {r = r} {new = new} {text = text} {lines = li
     let D = run-stands R in
     let fs = map figures os in
     let n : suc (length fs) ≡ 1 + length fs = omega arith in
-    let l = N .line fs o (D .0) F ∙ ap (λ (k : ℕ). sheetLine k (figures o)) n in (
+    let l = N .line fs o (D .0) F .front ∙ ap (λ (k : ℕ). sheetLine k (figures o)) n in (
       subst (λ (gs : List Figures). Standing gs (r .tally) new) (sym (map-more os o)) (N .after fs o (D .0) F),
       ap (λ (xs : List ℕ). xs ++ take (r .size) text) (D .1) ∙ ap (λ (xs : List ℕ). eachSheet sheetLine 1 fs ++ xs) l
           ∙ sym (lines-more sheetLine 1 fs (figures o)) ∙ ap (eachSheet sheetLine 1) (sym (map-more os o)),

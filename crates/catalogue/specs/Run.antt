@@ -17,6 +17,6 @@ pub data Run : List (Option (List ℕ)) → Tally → List ℕ → List ℕ → 
   -- `Tally::start`
   start : {t : Tally} {marks : List ℕ} → t .place ≡ 0 → sumsOf t ≡ noSums → mostFrom (t .most) ≡ noMost → Run [] t marks []
   -- `next_sheet`
-  more : {os : List (Option (List ℕ))} {o : Option (List ℕ)} {cut : Bool} {t : Tally} {r : Step} {bs old new text lines : List ℕ}
-      → Run os t old lines → Front bs cut o → Next bs cut t old r new text
+  more : {os : List (Option (List ℕ))} {o : Option (List ℕ)} {cut : Bool} {t : Tally} {r : Step} {bs old new row text lines : List ℕ}
+      → Run os t old lines → Front bs cut o → Next bs cut t old r new row text
       → Run (os ++ (o ∷ [])) (r .tally) new (lines ++ take (r .size) text)

@@ -1,5 +1,5 @@
 -- What a tally and a row of marks stand for: the figures of the sheets so far; and what one sheet more makes of them.
--- Rests on base Lists, formats Limits, File and Report, calls Report, file_words Longer, unused Marks, tally Tallies.
+-- Rests on base Lists, formats Limits, File and Report, calls Report, file_words Longer, digits Wrote, unused Marks, tally Tallies.
 use mathlib.Core.Path.{_≡_}
 use mathlib.Core.Bool.{Bool, true, false, _&&_, not}
 use mathlib.Core.List.{List, [], _∷_, _++_}
@@ -13,6 +13,7 @@ use Rattle.formats.specs.File.{wordsOf}
 use Rattle.formats.specs.Report.{Figures, sheetLine, noSums, sums, noMost, most}
 use Rattle.calls.specs.Report.{figures}
 use Rattle.file_words.specs.Longer.{longerFile}
+use Rattle.digits.specs.Wrote.{Wrote}
 use Rattle.unused.specs.Marks.{markedBlocks}
 use Rattle.tally.specs.declared.Tally.{Tally}
 use Rattle.tally.specs.Tallies.{sumsOf, mostFrom, Fits}
@@ -40,10 +41,10 @@ pub data Front (bs : List ℕ) : Bool → Option (List ℕ) → Type 0 where
   beyond : Front bs true none
   whole : (fs : List ℕ) → bs ≡ take longerFile fs → Front bs false (some (wordsOf fs))
 
--- ONE SHEET MORE: its line, what the tally and the marks stand for then, and whether another sheet may come
-pub record Next (bs : List ℕ) (cut : Bool) (t : Tally) (old : List ℕ) (r : Step) (new text : List ℕ) : Type 0 where
+-- ONE SHEET MORE: its line, written into a row, what the tally and the marks stand for then, and whether another sheet may come
+pub record Next (bs : List ℕ) (cut : Bool) (t : Tally) (old : List ℕ) (r : Step) (new row text : List ℕ) : Type 0 where
   pub line : (fs : List Figures) (o : Option (List ℕ)) → Standing fs t old → Front bs cut o
-      → take (r .size) text ≡ sheetLine (suc (length fs)) (figures o)
+      → Wrote row 0 (sheetLine (suc (length fs)) (figures o)) text (r .size)
   pub after : (fs : List Figures) (o : Option (List ℕ)) → Standing fs t old → Front bs cut o
       → Standing (fs ++ (figures o ∷ [])) (r .tally) new
   pub more : r .more ≡ (not cut && ltb (r .tally .place) mostSheets)

@@ -5,10 +5,11 @@ ghost use mathlib.Core.Bool.{_&&_, not};
 ghost use mathlib.Core.List.{List};
 ghost use Prim.Native.Nat.{_+_, _≤_, _<_};
 ghost use lib.Dec.{ltb};
-ghost use lib.ListN.{length, take};
+ghost use lib.ListN.{length};
 ghost use Rattle.formats.specs.Limits.{mostSheets};
 ghost use Rattle.formats.specs.Report.{Figures};
 ghost use Rattle.file_words.specs.Longer.{longerFile};
+ghost use Rattle.digits.specs.Wrote.{Wrote};
 ghost use Rattle.report_lines.specs.Lines.{lineRoom, unusedRoom};
 ghost use Rattle.catalogue.specs.Standing.{Ready, Standing, Next};
 ghost use Rattle.catalogue.specs.Parts.{closingPart};
@@ -48,7 +49,7 @@ pub fn next_sheet(bytes: &[u8], cut: bool, tally: Tally, marks: &mut [u8], text:
     requires { ⌜ Ready tally (now marks) × (tally .place < mostSheets) ⌝ }
     requires { ⌜ lineRoom ≤ length (now text) ⌝ }
     ensures { λ r. ⌜ Ready (r .tally) (now (marks .exit)) × (r .size ≤ length (now (text .exit))) × (tally .place < r .tally .place) ⌝ }
-    ensures { λ r. ⌜ Next (now (bytes .entry)) cut tally (now (marks .entry)) r (now (marks .exit)) (now (text .exit)) ⌝ }
+    ensures { λ r. ⌜ Next (now (bytes .entry)) cut tally (now (marks .entry)) r (now (marks .exit)) (now (text .entry)) (now (text .exit)) ⌝ }
 {
     let at = tally.place * MOST_BLOCKS;
     let r = report_item(
@@ -72,7 +73,7 @@ pub fn closing_part(k: usize, tally: Tally, marks: &[u8], text: &mut [u8]) -> us
     requires { ⌜ Ready tally (now marks) × (k < tally .place + 2) ⌝ }
     requires { ⌜ unusedRoom ≤ length (now text) ⌝ }
     ensures { λ r. ⌜ r ≤ length (now (text .exit)) ⌝ }
-    ensures { λ r. ⌜ ((fs : List Figures) → Standing fs tally (now (marks .entry)) → take r (now (text .exit)) ≡ closingPart fs k) ⌝ }
+    ensures { λ r. ⌜ ((fs : List Figures) → Standing fs tally (now (marks .entry)) → Wrote (now (text .entry)) 0 (closingPart fs k) (now (text .exit)) r) ⌝ }
 {
     if k == 0 {
         return write_total(text, tally.blocks, tally.copies, tally.edges);

@@ -1,10 +1,10 @@
 -- What is said of a refused and of an accepted sheet, from what the calls below answer and leave.
--- Rests on formats Report and Accepted, calls Unused and Built, unused Named, specs Says.
+-- Rests on formats Report and Accepted, calls Unused and Built, digits Wrote and Due, unused Named, specs Says.
 use mathlib.Core.Path.{_≡_, refl, sym, ap, subst, _∙_}
 use mathlib.Core.List.{List}
 use Prim.Native.Nat.{ℕ, zero, suc, _≤_, _<_}
 use native.Mathlib.Omega.{arith}
-use lib.ListN.{length, take}
+use lib.ListN.{length}
 use Rattle.base.specs.Checks.{refused}
 use Rattle.formats.specs.Limits.{mostBlocks, mostCopies, mostBoundedEdges}
 use Rattle.formats.specs.GraphSheet.{header}
@@ -19,6 +19,8 @@ use Rattle.calls.proofs.Built.{keeps-rule}
 use Rattle.calls.proofs.Unused.{sheet-accepted, sheet-refused, listed}
 use Rattle.graph_words.proofs.Formed.{formed-of as graph-formed}
 use Rattle.bounded_words.proofs.Formed.{formed-of as bounded-formed}
+use Rattle.digits.specs.Wrote.{Wrote}
+use Rattle.digits.proofs.Due.{wrote-as}
 use Rattle.unused.specs.Marks.{markedBlocks, First}
 use Rattle.unused.proofs.Named.{names-none}
 use Rattle.figures.specs.declared.Reported.{Reported}
@@ -30,11 +32,11 @@ unfolding sheetLine refusedAs
 by-number p zero l = absurd (omega arith)
 by-number p (suc n) l = refl
 
-pub refused-says : {n p k : ℕ} {marks text : List ℕ} → 0 < n → First 0 marks → (take k text ≡ refusedLine p n) × (k ≤ length text)
-    → Says (refusedAs n) p (record { blocks = 0; copies = 0; edges = 0; size = k }) marks text
+pub refused-says : {n p k : ℕ} {marks old text : List ℕ} → 0 < n → First 0 marks → Wrote old 0 (refusedLine p n) text k × (k ≤ length text)
+    → Says (refusedAs n) p (record { blocks = 0; copies = 0; edges = 0; size = k }) marks old text
 unfolding refusedAs
 refused-says {n} {p} l F w =
-    record { blocks = refl; copies = refl; edges = refl; unused = names-none F; line = w .0 ∙ sym (by-number p n l); inside = w .1 }
+    record { blocks = refl; copies = refl; edges = refl; unused = names-none F; line = wrote-as (w .0) (sym (by-number p n l)); inside = w .1 }
 
 pub refused-small : (k : ℕ) → Small (record { blocks = 0; copies = 0; edges = 0; size = k })
 refused-small k = record { blocks = omega arith; copies = omega arith; edges = omega arith }
@@ -64,24 +66,24 @@ module _ (w : List ℕ) (e : refused listingOrder w ≡ 0) where
             edges = subst (λ (x : ℕ). x ≤ mostBoundedEdges) (sym (k ∙ ap (λ (x : List ℕ). heading x .edges) q)) (K .edges);
           }
 
-      pub accepted-says : {p s : ℕ} {marks text : List ℕ} → markedBlocks marks ≡ unusedBlocks n t
-          → (take s text ≡ figuresLine p n c f) × (s ≤ length text)
-          → Says (acceptedFigures w) p (record { blocks = n; copies = c; edges = f; size = s }) marks text
+      pub accepted-says : {p s : ℕ} {marks old text : List ℕ} → markedBlocks marks ≡ unusedBlocks n t
+          → Wrote old 0 (figuresLine p n c f) text s × (s ≤ length text)
+          → Says (acceptedFigures w) p (record { blocks = n; copies = c; edges = f; size = s }) marks old text
       unfolding sheetLine
       accepted-says {p} m l = record {
         blocks = i;
         copies = j ∙ ap (λ (x : List ℕ). heading x .copies) q;
         edges = k ∙ ap (λ (x : List ℕ). heading x .edges) q;
         unused = m ∙ ap (λ (x : ℕ). unusedBlocks x t) i ∙ ap (unusedBlocks (header w .blocks)) q;
-        line = l .0 ∙ rw (i, j, k, q);
+        line = wrote-as (l .0) (rw (i, j, k, q));
         inside = l .1;
       }
 
 -- BY THE ANSWER
-module _ (w : List ℕ) {marks text : List ℕ} {p : ℕ} {r : Reported} where
-  pub says-accepted : refused listingOrder w ≡ 0 → Says (acceptedFigures w) p r marks text → Says (sheetFigures w) p r marks text
-  says-accepted e S = subst (λ (f : Figures). Says f p r marks text) (sym (sheet-accepted w e)) S
+module _ (w : List ℕ) {marks old text : List ℕ} {p : ℕ} {r : Reported} where
+  pub says-accepted : refused listingOrder w ≡ 0 → Says (acceptedFigures w) p r marks old text → Says (sheetFigures w) p r marks old text
+  says-accepted e S = subst (λ (f : Figures). Says f p r marks old text) (sym (sheet-accepted w e)) S
 
-  pub says-refused : {n : ℕ} → refused listingOrder w ≡ n → (n ≡ 0 → ⊥) → Says (refusedAs n) p r marks text
-      → Says (sheetFigures w) p r marks text
-  says-refused {n} e z S = subst (λ (f : Figures). Says f p r marks text) (sym (sheet-refused w n e z)) S
+  pub says-refused : {n : ℕ} → refused listingOrder w ≡ n → (n ≡ 0 → ⊥) → Says (refusedAs n) p r marks old text
+      → Says (sheetFigures w) p r marks old text
+  says-refused {n} e z S = subst (λ (f : Figures). Says f p r marks old text) (sym (sheet-refused w n e z)) S

@@ -23,17 +23,17 @@ same-figures : (v w : List ℕ) → refused listingOrder v ≡ refused listingOr
     → sheetFigures v ≡ sheetFigures w
 same-figures v w e n = sheet-refused v _ refl n ∙ sym (sheet-refused w _ (sym e) n)
 
-module _ (bs : List ℕ) {p : ℕ} {r : Reported} {marks text : List ℕ} where
-  pub reports-cut : {cut : Bool} → cut ≡ true → Says (figures none) p r marks text → Reports bs cut p r marks text
+module _ (bs : List ℕ) {p : ℕ} {r : Reported} {marks old text : List ℕ} where
+  pub reports-cut : {cut : Bool} → cut ≡ true → Says (figures none) p r marks old text → Reports bs cut p r marks old text
   reports-cut q S = record { beyond = λ e. S; whole = λ fs e f. absurd (not-both q e) }
 
   -- w are its words
-  pub reports-whole : {cut : Bool} {w : List ℕ} → cut ≡ false → w ≡ wordsOf bs → Says (figures (some w)) p r marks text
-      → Reports bs cut p r marks text
+  pub reports-whole : {cut : Bool} {w : List ℕ} → cut ≡ false → w ≡ wordsOf bs → Says (figures (some w)) p r marks old text
+      → Reports bs cut p r marks old text
   unfolding figures
   reports-whole q i S = record {
     beyond = λ e. absurd (not-both e q);
     whole = λ fs e f.
-        subst (λ (x : Figures). Says x p r marks text)
+        subst (λ (x : Figures). Says x p r marks old text)
         (ap sheetFigures i ∙ ap (λ (x : List ℕ). sheetFigures (wordsOf x)) f ∙ front-same sheetFigures same-figures fs) S;
   }

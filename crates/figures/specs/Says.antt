@@ -1,5 +1,5 @@
 -- What a report says of a sheet, in what the code answers and leaves: its figures, its line and the marks of its unused blocks.
--- Rests on formats Limits, File and Report, calls Report, file_words Longer, unused Marks.
+-- Rests on formats Limits, File and Report, calls Report, file_words Longer, digits Wrote, unused Marks.
 use mathlib.Core.Path.{_≡_}
 use mathlib.Core.Bool.{Bool, true, false}
 use mathlib.Core.List.{List}
@@ -11,22 +11,23 @@ use Rattle.formats.specs.File.{wordsOf}
 use Rattle.formats.specs.Report.{Figures, sheetLine}
 use Rattle.calls.specs.Report.{figures}
 use Rattle.file_words.specs.Longer.{longerFile}
+use Rattle.digits.specs.Wrote.{Wrote}
 use Rattle.unused.specs.Marks.{markedBlocks}
 use Rattle.figures.specs.declared.Reported.{Reported}
 
--- of the sheet at place p, with the figures f
-pub record Says (f : Figures) (p : ℕ) (r : Reported) (marks text : List ℕ) : Type 0 where
+-- of the sheet at place p, with the figures f; its line is written into the row old
+pub record Says (f : Figures) (p : ℕ) (r : Reported) (marks old text : List ℕ) : Type 0 where
   pub blocks : r .blocks ≡ f .blocks
   pub copies : r .copies ≡ f .copies
   pub edges : r .edges ≡ f .edges
   pub unused : markedBlocks marks ≡ f .unused
-  pub line : take (r .size) text ≡ sheetLine p f
+  pub line : Wrote old 0 (sheetLine p f) text (r .size)
   pub inside : r .size ≤ length text
 
 -- bs is as much of the bytes of a sheet as is read, cut whether its length was beyond the words left
-pub record Reports (bs : List ℕ) (cut : Bool) (p : ℕ) (r : Reported) (marks text : List ℕ) : Type 0 where
-  pub beyond : cut ≡ true → Says (figures none) p r marks text
-  pub whole : (fs : List ℕ) → cut ≡ false → bs ≡ take longerFile fs → Says (figures (some (wordsOf fs))) p r marks text
+pub record Reports (bs : List ℕ) (cut : Bool) (p : ℕ) (r : Reported) (marks old text : List ℕ) : Type 0 where
+  pub beyond : cut ≡ true → Says (figures none) p r marks old text
+  pub whole : (fs : List ℕ) → cut ≡ false → bs ≡ take longerFile fs → Says (figures (some (wordsOf fs))) p r marks old text
 
 -- no more than the limits allow
 pub record Small (r : Reported) : Type 0 where

@@ -42,7 +42,7 @@ fn report_refused(number: usize, place: usize, marks: &mut [u8], text: &mut [u8]
     requires { ⌜ (0 < number) × (number < numberLimit) × (place < numberLimit) ⌝ }
     requires { ⌜ length (now marks) ≡ mostBlocks ⌝ }
     requires { ⌜ lineRoom ≤ length (now text) ⌝ }
-    ensures { λ r. ⌜ Says (refusedAs number) place r (now (marks .exit)) (now (text .exit)) × Small r ⌝ }
+    ensures { λ r. ⌜ Says (refusedAs number) place r (now (marks .exit)) (now (text .entry)) (now (text .exit)) × Small r ⌝ }
 {
     mark_first(marks, 0);
     let n = write_refused(text, place, number);
@@ -67,7 +67,7 @@ fn report_built(
     requires { ⌜ place < numberLimit ⌝ }
     requires { ⌜ length (now marks) ≡ mostBlocks ⌝ }
     requires { ⌜ lineRoom ≤ length (now text) ⌝ }
-    ensures { λ r. ⌜ Says (acceptedFigures (now (words .entry))) place r (now (marks .exit)) (now (text .exit)) × Small r ⌝ }
+    ensures { λ r. ⌜ Says (acceptedFigures (now (words .entry))) place r (now (marks .exit)) (now (text .entry)) (now (text .exit)) × Small r ⌝ }
 {
     let n = blocks(words);
     let t = front_sheet(row);
@@ -96,7 +96,7 @@ fn report_in_rows(
     requires { ⌜ place < numberLimit ⌝ }
     requires { ⌜ length (now marks) ≡ mostBlocks ⌝ }
     requires { ⌜ lineRoom ≤ length (now text) ⌝ }
-    ensures { λ r. ⌜ Says (figures (some (now (words .entry)))) place r (now (marks .exit)) (now (text .exit)) × Small r ⌝ }
+    ensures { λ r. ⌜ Says (figures (some (now (words .entry)))) place r (now (marks .exit)) (now (text .entry)) (now (text .exit)) × Small r ⌝ }
 {
     let a = build(words, area, out);
     if a != 0 {
@@ -110,7 +110,7 @@ fn report_sheet(words: &[u16], place: usize, marks: &mut [u8], text: &mut [u8]) 
     requires { ⌜ place < numberLimit ⌝ }
     requires { ⌜ length (now marks) ≡ mostBlocks ⌝ }
     requires { ⌜ lineRoom ≤ length (now text) ⌝ }
-    ensures { λ r. ⌜ Says (figures (some (now (words .entry)))) place r (now (marks .exit)) (now (text .exit)) × Small r ⌝ }
+    ensures { λ r. ⌜ Says (figures (some (now (words .entry)))) place r (now (marks .exit)) (now (text .entry)) (now (text .exit)) × Small r ⌝ }
 {
     let mut area = [0u8; MOST_CELLS];
     let mut out = [0u16; MOST_WORDS];
@@ -122,7 +122,7 @@ fn report_cut(place: usize, marks: &mut [u8], text: &mut [u8]) -> Reported
     requires { ⌜ place < numberLimit ⌝ }
     requires { ⌜ length (now marks) ≡ mostBlocks ⌝ }
     requires { ⌜ lineRoom ≤ length (now text) ⌝ }
-    ensures { λ r. ⌜ Says (figures none) place r (now (marks .exit)) (now (text .exit)) × Small r ⌝ }
+    ensures { λ r. ⌜ Says (figures none) place r (now (marks .exit)) (now (text .entry)) (now (text .exit)) × Small r ⌝ }
 {
     report_refused(3, place, marks, text)
 }
@@ -139,7 +139,7 @@ pub fn report_item(
     requires { ⌜ place < numberLimit ⌝ }
     requires { ⌜ length (now marks) ≡ mostBlocks ⌝ }
     requires { ⌜ lineRoom ≤ length (now text) ⌝ }
-    ensures { λ r. ⌜ Reports (now (bytes .entry)) cut place r (now (marks .exit)) (now (text .exit)) ⌝ }
+    ensures { λ r. ⌜ Reports (now (bytes .entry)) cut place r (now (marks .exit)) (now (text .entry)) (now (text .exit)) ⌝ }
     ensures { λ r. ⌜ (r .size ≤ length (now (text .exit))) × Small r ⌝ }
 {
     if cut {

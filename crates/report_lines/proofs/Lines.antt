@@ -1,15 +1,15 @@
 -- A report's lines, part by part as they are written.
 -- Rests on formats Listing and Report, digits Spaced, Wrote, Due and NumberLine, specs Lines.
-use mathlib.Core.Path.{_≡_, refl, _∙_}
+use mathlib.Core.Path.{_≡_, refl}
 use mathlib.Core.List.{List, [], _∷_, _++_, append-assoc}
 use Prim.Native.Nat.{ℕ, zero, suc, _+_, _≤_}
 use native.Mathlib.Omega.{arith}
-use lib.ListN.{length, take}
+use lib.ListN.{length}
 use Rattle.formats.specs.Listing.{decimal, line}
 use Rattle.formats.specs.Report.{Most, Sums, totalText, mostText, unusedText, figuresLine, refusedLine, totalLine, mostLine, unusedLine}
 use Rattle.digits.specs.Spaced.{spaced}
 use Rattle.digits.specs.Wrote.{Wrote}
-use Rattle.digits.proofs.Due.{wrote-then}
+use Rattle.digits.proofs.Due.{wrote-as, wrote-then}
 use Rattle.digits.proofs.NumberLine.{newlineText}
 use Rattle.report_lines.specs.Lines.{threeText}
 
@@ -48,7 +48,7 @@ pub unused-is : (p v : ℕ) → (unusedText ++ spaced p) ++ (spaced v ++ newline
 unfolding unusedLine line spaced
 unused-is p v = refl
 
--- two pieces from the row's start on, the second in its room, are a line at its front
+-- two pieces from the row's start on, the second in its room, are a line
 pub whole-line : {old mid new xs ys zs : List ℕ} {p r : ℕ} → Wrote old 0 xs mid p → Wrote mid p ys new r → xs ++ ys ≡ zs
-    → p + length ys ≤ length mid → length new ≡ length mid → (take r new ≡ zs) × (r ≤ length new)
-whole-line U W e l q = (wrote-then U W .front ∙ e, omega (arith, W .is-end))
+    → p + length ys ≤ length mid → length new ≡ length mid → Wrote old 0 zs new r × (r ≤ length new)
+whole-line U W e l q = (wrote-as (wrote-then U W) e, omega (arith, W .is-end))

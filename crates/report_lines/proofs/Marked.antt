@@ -6,7 +6,7 @@ use mathlib.Core.List.{List, [], _∷_, _++_}
 use Prim.Native.Nat.{ℕ, _+_, _-_, _≤_, _<_}
 use native.Mathlib.Omega.{arith}
 use borrow.Author.Tests.{eq-eqb, ne-eqb}
-use lib.ListN.{length, getD, take}
+use lib.ListN.{length, getD}
 use Rattle.base.specs.Lists.{keep, each, from}
 use Rattle.base.proofs.Lists.{keep-e, from-e, from-length}
 use Rattle.base.proofs.Search.{upto, upto-one, upto-more, upto-end}
@@ -91,8 +91,8 @@ module _ (place : ℕ) (ms : List ℕ) where
         marked-on W e =
             record { least = omega arith; most = omega arith; due = due-step (unusedLine place v) later next-due W e }
 
-    pub marked-end : mostBlocks < v → (take p new ≡ allLines) × (p ≤ length new)
+    pub marked-end : mostBlocks < v → Wrote old 0 allLines new p × (p ≤ length new)
     unfolding keep each
     marked-end l =
         let W = due-end (M .due) (ap linesOf (upto-end v mostBlocks l)) in
-        (W .front, omega (arith, W .is-end, M .due .room, M .due .same))
+        (W, omega (arith, W .is-end, M .due .room, M .due .same))

@@ -1,8 +1,8 @@
 // The lines of a report, written into a lent row of bytes.
-// Rests on digits and unused; the promises are equations with formats Report.
+// Rests on digits and unused; the promises say the whole row, by digits Wrote and formats Report.
 ghost use mathlib.Core.Path.{_≡_};
 ghost use Prim.Native.Nat.{_+_, _<_, _≤_};
-ghost use lib.ListN.{length, take};
+ghost use lib.ListN.{length};
 ghost use Rattle.base.specs.Lists.{each};
 ghost use Rattle.formats.specs.Limits.{mostBlocks};
 ghost use Rattle.formats.specs.Report.{figuresLine, refusedLine, totalLine, mostLine, unusedLine};
@@ -43,7 +43,7 @@ pub fn write_figures(
 ) -> usize
     requires { ⌜ lineRoom ≤ length (now text) ⌝ }
     requires { ⌜ (place < numberLimit) × (blocks < numberLimit) × (copies < numberLimit) × (edges < numberLimit) ⌝ }
-    ensures { λ r. ⌜ (take r (now (text .exit)) ≡ figuresLine place blocks copies edges) × (r ≤ length (now (text .exit))) ⌝ }
+    ensures { λ r. ⌜ Wrote (now (text .entry)) 0 (figuresLine place blocks copies edges) (now (text .exit)) r × (r ≤ length (now (text .exit))) ⌝ }
 {
     let at = put_decimal(text, 0, place);
     put_three(text, at, blocks, copies, edges)
@@ -53,7 +53,7 @@ pub fn write_figures(
 pub fn write_refused(text: &mut [u8], place: usize, number: usize) -> usize
     requires { ⌜ lineRoom ≤ length (now text) ⌝ }
     requires { ⌜ (place < numberLimit) × (number < numberLimit) ⌝ }
-    ensures { λ r. ⌜ (take r (now (text .exit)) ≡ refusedLine place number) × (r ≤ length (now (text .exit))) ⌝ }
+    ensures { λ r. ⌜ Wrote (now (text .entry)) 0 (refusedLine place number) (now (text .exit)) r × (r ≤ length (now (text .exit))) ⌝ }
 {
     let p = put_decimal(text, 0, place);
     let q = put_named(text, p, b" refused", number);
@@ -64,7 +64,7 @@ pub fn write_refused(text: &mut [u8], place: usize, number: usize) -> usize
 pub fn write_total(text: &mut [u8], blocks: usize, copies: usize, edges: usize) -> usize
     requires { ⌜ lineRoom ≤ length (now text) ⌝ }
     requires { ⌜ (blocks < numberLimit) × (copies < numberLimit) × (edges < numberLimit) ⌝ }
-    ensures { λ r. ⌜ (take r (now (text .exit)) ≡ totalLine (record { blocks = blocks; copies = copies; edges = edges })) × (r ≤ length (now (text .exit))) ⌝ }
+    ensures { λ r. ⌜ Wrote (now (text .entry)) 0 (totalLine (record { blocks = blocks; copies = copies; edges = edges })) (now (text .exit)) r × (r ≤ length (now (text .exit))) ⌝ }
 {
     let p = put_bytes(text, 0, b"total");
     put_three(text, p, blocks, copies, edges)
@@ -74,7 +74,7 @@ pub fn write_total(text: &mut [u8], blocks: usize, copies: usize, edges: usize) 
 pub fn write_most(text: &mut [u8], place: usize, copies: usize, blocks: usize) -> usize
     requires { ⌜ lineRoom ≤ length (now text) ⌝ }
     requires { ⌜ (place < numberLimit) × (copies < numberLimit) × (blocks < numberLimit) ⌝ }
-    ensures { λ r. ⌜ (take r (now (text .exit)) ≡ mostLine (record { place = place; copies = copies; blocks = blocks })) × (r ≤ length (now (text .exit))) ⌝ }
+    ensures { λ r. ⌜ Wrote (now (text .entry)) 0 (mostLine (record { place = place; copies = copies; blocks = blocks })) (now (text .exit)) r × (r ≤ length (now (text .exit))) ⌝ }
 {
     if place == 0 {
         let p = put_bytes(text, 0, b"most none");
@@ -99,7 +99,7 @@ pub fn write_unused(text: &mut [u8], place: usize, marks: &[u8]) -> usize
     requires { ⌜ unusedRoom ≤ length (now text) ⌝ }
     requires { ⌜ place < numberLimit ⌝ }
     requires { ⌜ length (now marks) ≡ mostBlocks ⌝ }
-    ensures { λ r. ⌜ (take r (now (text .exit)) ≡ each (unusedLine place) (markedBlocks (now (marks .entry)))) × (r ≤ length (now (text .exit))) ⌝ }
+    ensures { λ r. ⌜ Wrote (now (text .entry)) 0 (each (unusedLine place) (markedBlocks (now (marks .entry)))) (now (text .exit)) r × (r ≤ length (now (text .exit))) ⌝ }
 {
     let mut p = 0;
     let mut v = 1;
