@@ -1,7 +1,9 @@
 // Standard input to its end: whether its number of bytes is odd; and past some bytes.
 // Rests on io; no contract can say what is read.
 use libc::STDIN_FILENO;
+ghost use mathlib.Core.Path.{_≡_};
 ghost use Prim.Native.Nat.{_≤_};
+ghost use Rattle.input.specs.Smaller.{smaller};
 
 // Reads once, and answers how many bytes came.
 fn read_some() -> usize
@@ -31,7 +33,7 @@ pub fn odd_at_the_end(before: bool) -> bool {
 
 // The smaller of two numbers.
 pub fn least(a: usize, b: usize) -> usize
-    ensures { λ r. ⌜ (r ≤ a) × (r ≤ b) ⌝ }
+    ensures { λ r. ⌜ r ≡ smaller a b ⌝ }
 {
     if a < b {
         return a;

@@ -1,0 +1,2 @@
+-- the smaller of two numbers: smaller-first, smaller-second, smaller-most
+pub mod Smaller

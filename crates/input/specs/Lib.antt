@@ -1,0 +1,2 @@
+-- the smaller of two numbers: smaller
+pub mod Smaller
