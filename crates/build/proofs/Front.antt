@@ -14,13 +14,12 @@ use Rattle.formats.specs.BoundedSheet.{heading}
 use Rattle.calls.specs.SheetGraph.{sheetCopies, boundedSheet}
 use Rattle.calls.specs.Weigh.{Weighing, weighOrder, beforeWeighing, areaAfter, weighed}
 use Rattle.calls.specs.Build.{Lent, tooMany, smallOutput, buildOrder, outputAfter, build}
-use Rattle.calls.proofs.Weigh.{weigh-numbered, spared}
+use Rattle.calls.proofs.Weigh.{weigh-numbered, spared, late-area}
 use Rattle.build.specs.Within.{sheetAt, answerAt, outputAt}
 
 -- answers that both come after weighing leave the same area
 same-area : (w area : List ℕ) (a c : ℕ) → beforeWeighing a ≡ false → beforeWeighing c ≡ false → areaAfter w a area ≡ areaAfter w c area
-unfolding areaAfter
-same-area w area a c p q = rw (p, q, areaAfter)
+same-area w area a c p q = sym (late-area w area a p) ∙ late-area w area c q
 
 module _ (w area out : List ℕ) where
   abbrev pub lent : Lent

@@ -14,8 +14,8 @@ use Rattle.formats.specs.GraphSheet.{header, sheetRefusal}
 use Rattle.formats.proofs.Accepted.{accepted, long, blocks, budget-fits}
 use Rattle.calls.specs.SheetGraph.{graph}
 use Rattle.calls.specs.Area.{areaSize, filled, Table}
-use Rattle.calls.specs.Weigh.{sheetArea, beforeWeighing, areaAfter, weighed}
-use Rattle.calls.proofs.Weigh.{Passed, weighs-e, spared}
+use Rattle.calls.specs.Weigh.{sheetArea, beforeWeighing, weighed}
+use Rattle.calls.proofs.Weigh.{Passed, weighs-e, spared, late-area}
 use Rattle.calls.proofs.Area.{filled-table}
 use Rattle.descend.specs.Marks.{Clear}
 
@@ -39,8 +39,8 @@ module _ (w area : List ℕ) (e : weighed (record { sheet = w; area = area }) .a
 
   -- the area holds the table
   area-filled : weighed (record { sheet = w; area = area }) .area ≡ filled (graph w) (header w .blocks) (header w .budget) area
-  unfolding weighed areaAfter any member from
-  area-filled = rw (ap beforeWeighing e ∙ spared 0, areaAfter)
+  unfolding weighed any member from
+  area-filled = sym (late-area w area _ (ap beforeWeighing e ∙ spared 0))
 
   pub has-table : Table (graph w) (header w .blocks) (header w .budget) (weighed (record { sheet = w; area = area }) .area)
   unfolding sheetArea

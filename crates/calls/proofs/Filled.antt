@@ -1,6 +1,6 @@
 -- What 9 and the work area say of a sheet's completions: proved of every sheet that passes 1 to 8.
 -- Rests on theory Completions, formats Accepted, SheetLaws, Area, Weigh, specs Filled.
-use mathlib.Core.Path.{_≡_, refl, sym, ap, _∙_}
+use mathlib.Core.Path.{_≡_, refl, sym, ap, subst, _∙_}
 use mathlib.Core.Logic.{_↔_}
 use mathlib.Core.Bool.{Bool, true, false}
 use mathlib.Core.List.{List, [], _++_, append-nil}
@@ -24,7 +24,7 @@ use Rattle.calls.specs.Build.{Lent, buildOrder, build}
 use Rattle.calls.specs.Moves.{GuardedInput, moved, guardedOrder, guardedReply, guardedMove}
 use Rattle.calls.specs.Filled.{NineIsExact, Holds, WeighingFills, BuildFills, MoveFills}
 use Rattle.calls.proofs.SheetLaws.{well-formed}
-use Rattle.calls.proofs.Weigh.{weighs-late}
+use Rattle.calls.proofs.Weigh.{weighs-late, late-area}
 use Rattle.calls.proofs.Area.{cell-filled, rest-untouched, filled-length}
 
 -- a look-up that finds nothing
@@ -83,10 +83,10 @@ module _ (w area : List ℕ) (ok : sheetRefusal w ≡ 0) (room : sheetArea w ≤
 holds-after : {J : Type 0} (f : J → Weighing) (qs : Order J) (j : J) {a : ℕ} → a ≡ refused (over f weighOrder ++ qs) j
     → beforeWeighing a ≡ false
     → Holds (f j .sheet) (f j .area) (areaAfter (f j .sheet) a (f j .area))
-unfolding areaAfter
-holds-after f qs j e late =
+holds-after f qs j {a} e late =
     let p = weighs-late f qs j (sym (ap beforeWeighing e) ∙ late) in
-    rw (late, areaAfter) (filled-holds (f j .sheet) (f j .area) (p .0) (p .1))
+    let w = f j .sheet in
+    subst (Holds w (f j .area)) (late-area w (f j .area) a late) (filled-holds w (f j .area) (p .0) (p .1))
 
 pub weighing-fills : WeighingFills
 unfolding weighed

@@ -18,7 +18,8 @@ use Rattle.theory.specs.Completions.{lowOf}
 use Rattle.formats.specs.GraphSheet.{header, sheetOrder, sheetRefusal}
 use Rattle.formats.proofs.Accepted.{graph-numbered}
 use Rattle.calls.specs.SheetGraph.{graph}
-use Rattle.calls.specs.Weigh.{Weighing, sheetArea, smallArea, nothingFits, weighOrder, beforeWeighing}
+use Rattle.calls.specs.Area.{filled}
+use Rattle.calls.specs.Weigh.{Weighing, sheetArea, smallArea, nothingFits, weighOrder, beforeWeighing, areaAfter}
 
 -- no number of the order is 0
 pub weigh-numbered : Numbered weighOrder
@@ -41,6 +42,12 @@ unfolding sheetRefusal sheetOrder numbersOf from
 sheet-early w n =
     let m = member-e (sheetRefusal w) (from 1 8) (refused-member sheetOrder w n) in
     spared (sheetRefusal w) ∙ member-i (Memᴰ·append-left (21 ∷ []) m)
+
+-- the area under any other answer is filled
+pub late-area : (w area : List ℕ) (a : ℕ) → beforeWeighing a ≡ false
+    → filled (graph w) (header w .blocks) (header w .budget) area ≡ areaAfter w a area
+unfolding areaAfter
+late-area w area a late = rw (late, areaAfter)
 
 -- the part of the order before 9
 frontOrder : Order Weighing

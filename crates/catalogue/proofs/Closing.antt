@@ -6,10 +6,10 @@ use mathlib.Core.Option.{some}
 use Prim.Native.Nat.{ℕ, suc, _+_, _-_, _*_, _<_}
 use native.Mathlib.Omega.{arith}
 use lib.ListN.{length, take, drop}
-use Rattle.base.specs.Lists.{chosen, each}
+use Rattle.base.specs.Lists.{each}
 use Rattle.base.proofs.Lists.{chosen-some}
 use Rattle.formats.specs.Limits.{mostBlocks}
-use Rattle.formats.specs.Report.{Figures, Sums, totalLine, Most, mostLine, unusedLine, unusedLines}
+use Rattle.formats.specs.Report.{Figures, totalLine, mostLine, unusedLine, unusedLines}
 use Rattle.unused.specs.Marks.{markedBlocks}
 use Rattle.tally.specs.declared.Tally.{Tally}
 use Rattle.tally.specs.Tallies.{sumsOf, mostFrom}

@@ -19,6 +19,7 @@ use Rattle.formats.specs.GraphSheet.{header, costWord}
 use Rattle.formats.proofs.Accepted.{accepted, paid, target-inside}
 use Rattle.graph_words.specs.Formed.{Formed}
 use Rattle.graph_words.proofs.Formed.{formed-of}
+use Rattle.calls.proofs.Weigh.{some-low}
 use Rattle.calls.specs.SheetGraph.{graph}
 use Rattle.calls.specs.Area.{cellOf}
 use Rattle.calls.proofs.SheetLaws.{well-formed, settingAt}
@@ -27,12 +28,6 @@ use Rattle.cells.proofs.Cells.{cell-inside}
 use Rattle.tables.specs.Tables.{optionOf, sheetCopiesAt}
 use Rattle.tables.proofs.Options.{option-none, option-some}
 use Rattle.descend.specs.Marks.{Due, AllDue, Ready}
-
--- an option that is not none
-pub there-is : (o : Option ℕ) → isNone o ≡ false → (a : ℕ) × (o ≡ some a)
-unfolding isNone
-there-is none e = absurd (not-both refl e)
-there-is (some a) e = (a, refl)
 
 -- the copy of a number that is not 0
 pub due-copy : {w : List ℕ} {b v : ℕ} (x : ℕ) → (x ≡ 0 → ⊥) → Due w b v (optionOf x) → List·Memᴰ (copyOf v (x - 1)) (sheetCopiesAt w b)
@@ -48,7 +43,7 @@ module _ {w : List ℕ} {b : ℕ} {lows marks : List ℕ} (R : Ready w b lows ma
   -- the theory's setting, whose copies are those of the sheet
   abbrev pub setting : Setting
   setting =
-      let a = there-is (lowOf (graph w) 1 b) (R .opens) in settingAt w (accepted w (R .ok)) b (a .0) (a .1)
+      let a = some-low (lowOf (graph w) 1 b) (R .opens) in settingAt w (accepted w (R .ok)) b (a .0) (a .1)
 
   -- the cell of a block and a number up to the budget is within the limits
   in-limits : (v l : ℕ) → (1 ≤ v) × (v ≤ header w .blocks) → l ≤ b → Within b v l

@@ -14,7 +14,7 @@ use Rattle.formats.specs.Report.{Figures, unusedBlocks, refusedAs, figuresLine,
 use Rattle.formats.proofs.Accepted.{accepted, blocks}
 use Rattle.calls.specs.SheetGraph.{boundedSheet}
 use Rattle.calls.specs.Program.{listingOrder}
-use Rattle.calls.specs.Report.{acceptedFigures, sheetFigures, figures}
+use Rattle.calls.specs.Report.{acceptedFigures, sheetFigures}
 use Rattle.calls.proofs.Built.{keeps-rule}
 use Rattle.calls.proofs.Unused.{sheet-accepted, sheet-refused, listed}
 use Rattle.graph_words.proofs.Formed.{formed-of as graph-formed}

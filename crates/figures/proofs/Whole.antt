@@ -13,7 +13,6 @@ use Rattle.formats.specs.Report.{Figures}
 use Rattle.calls.specs.Program.{listingOrder}
 use Rattle.calls.specs.Report.{sheetFigures, figures}
 use Rattle.calls.proofs.Unused.{sheet-refused}
-use Rattle.file_words.specs.Longer.{longerFile}
 use Rattle.list.proofs.Files.{front-same}
 use Rattle.figures.specs.declared.Reported.{Reported}
 use Rattle.figures.specs.Says.{Says, Reports}

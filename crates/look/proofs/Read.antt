@@ -9,6 +9,7 @@ use native.Mathlib.Omega.{arith}
 use native.Mathlib.Nat.{le-refl}
 use lib.ListN.{length}
 use Rattle.theory.specs.Completions.{Graph, completes, largest, lowOf}
+use Rattle.theory.proofs.Completions.{largest-agree}
 use Rattle.calls.specs.Area.{cellOf, stands, Table}
 use Rattle.cells.proofs.Cells.{cell-inside}
 
@@ -17,20 +18,10 @@ pub cell-rises : (b v c r : ℕ) → c ≤ r → cellOf b v c ≤ cellOf b v r
 unfolding cellOf
 cell-rises b v c r l = omega arith
 
--- tests that agree up to r have the same largest number
-abbrev pick : Bool → Option ℕ → Option ℕ → Option ℕ
-pick b x y = elim b [ true ↦ x | false ↦ y ]
-
-agree : (f g : ℕ → Bool) (r : ℕ) → ((c : ℕ) → c ≤ r → f c ≡ g c) → largest f r ≡ largest g r
-unfolding largest
-agree f g zero h = ap (λ (b : Bool). pick b (some zero) none) (h zero (le-refl zero))
-agree f g (suc r) h =
-    ap₂ (λ (b : Bool) (o : Option ℕ). pick b (some (suc r)) o) (h (suc r) (le-refl (suc r))) (agree f g r (λ c l. h c (omega arith)))
-
 module _ {g : Graph} {n b : ℕ} {area : List ℕ} (t : Table g n b area) (v r : ℕ) (low : 1 ≤ v) (high : v ≤ n) (most : r ≤ b) where
   pub table-cell : cellOf b v r < length area
   table-cell = omega (arith, cell-inside b n v r low high most, t .room)
 
   pub table-low : largest (stands b area v) r ≡ lowOf g v r
   unfolding lowOf
-  table-low = agree (stands b area v) (completes g v) r (λ c l. t .cells v c low high (omega arith))
+  table-low = largest-agree (stands b area v) (completes g v) r (λ c l. t .cells v c low high (omega arith))

@@ -10,7 +10,7 @@ use native.Mathlib.Decide.{ℕ-discrete}
 use native.Mathlib.Nat.{mul-le-mul-right}
 use lib.ListN.{length, getD, set, length-set}
 use Rattle.theory.specs.Completions.{Graph, largest, lowOf}
-use Rattle.theory.proofs.Completions.{largest-self}
+use Rattle.theory.proofs.Completions.{largest-self, largest-agree}
 use Rattle.calls.specs.Area.{cellOf, areaSize, stands, Table}
 use Rattle.cells.proofs.Cells.{cell-inside}
 use Rattle.tables.specs.Tables.{optionOf, Lows}
@@ -32,16 +32,6 @@ latest-is : (f : ℕ → Bool) (last r : ℕ) (h : Bool) → f r ≡ h → optio
 unfolding latest optionOf
 latest-is f last r true p e = sym (largest-self f r p)
 latest-is f last r false p e = e ∙ sym (largest-miss f r p)
-
--- tests that agree up to r
-largest-agree : (f h : ℕ → Bool) (r : ℕ) → ((c : ℕ) → c ≤ r → f c ≡ h c) → largest f r ≡ largest h r
-unfolding largest
-largest-agree f h zero e = rw (e zero (omega arith), largest)
-largest-agree f h (suc r) e = go (h (suc r)) refl (largest-agree f h r (λ c l. e c (omega arith)))
-  where
-    go : (x : Bool) → h (suc r) ≡ x → largest f r ≡ largest h r → largest f (suc r) ≡ largest h (suc r)
-    go true p q = rw (e (suc r) (omega arith) ∙ p, p, largest)
-    go false p q = rw (e (suc r) (omega arith) ∙ p, p, largest) q
 
 -- an entry is small enough for a word
 pub latest-small : (last r : ℕ) (h : Bool) → last ≤ r → latest last r h ≤ suc r

@@ -17,7 +17,7 @@ use Rattle.calls.specs.Weigh.{Weighing, sheetArea, weighOrder, beforeWeighing, 
 use Rattle.calls.specs.Moves.{outOfShape, Move, GuardedInput, onGraph, guardedOrder, guardedReply, guardedMove}
 use Rattle.calls.specs.Moves.{BoundedInput, onBounded, boundedMoveOrder, boundedMove}
 use Rattle.calls.proofs.Area.{filled-table}
-use Rattle.calls.proofs.Weigh.{Passed, weigh-numbered, weighs-e, spared}
+use Rattle.calls.proofs.Weigh.{Passed, weigh-numbered, weighs-e, spared, late-area}
 use Rattle.calls.proofs.Moves.{sheet-refuses, shape-refuses, guarded-as, bounded-as}
 use Rattle.walk.proofs.Shape.{shape-of}
 use Rattle.moves.proofs.Replies.{reply-late}
@@ -72,12 +72,11 @@ module _ (w area : List ℕ) (s : Walk) (k : ℕ) where
       sheet-passes = passed .ok
 
       filled-is : after ≡ filled (graph w) (header w .blocks) (header w .budget) area
-      unfolding areaAfter any member from
-      filled-is = area-is ∙ rw (ap beforeWeighing z ∙ spared 0, areaAfter)
+      unfolding any member from
+      filled-is = area-is ∙ sym (late-area w area a (ap beforeWeighing z ∙ spared 0))
 
       late : (c : ℕ) → beforeWeighing c ≡ false → after ≡ areaAfter w c area
-      unfolding areaAfter
-      late c f = rw (f, areaAfter) filled-is
+      late c f = filled-is ∙ late-area w area c f
 
       pub area-table : {b : ℕ} → b ≡ header w .budget → Table (graph w) (header w .blocks) b after
       unfolding sheetArea

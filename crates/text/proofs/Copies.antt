@@ -1,5 +1,5 @@
 -- The loop that writes the copies' lines: one turn, and its end.
--- Rests on base Lists, formats Listing, graph_check Search, digits Wrote and Due, specs Texts.
+-- Rests on base Lists and Search, formats Listing, digits Wrote and Due, specs Texts.
 use mathlib.Core.Path.{_≡_, sym, ap, _∙_}
 use mathlib.Core.List.{List, _++_}
 use Prim.Native.Nat.{ℕ, _+_, _≤_, _<_}

@@ -1,5 +1,5 @@
 -- The loop that writes a copy's targets down its chain: one turn, and its ends.
--- Rests on base Lists, formats BoundedSheet, graph_check Chains, digits Wrote, Spaced and Due, specs Texts, Kept.
+-- Rests on base Lists, formats BoundedSheet and Chains, digits Wrote, Spaced and Due, specs Texts, Kept.
 use mathlib.Core.Path.{_≡_, refl, sym, ap, subst, _∙_}
 use mathlib.Core.List.{List, [], _∷_, _++_, map, List·Memᴰ, List·Memᴰ·head, List·Memᴰ·tail}
 use Prim.Native.Nat.{ℕ, suc, _+_, _-_, _≤_, _<_}

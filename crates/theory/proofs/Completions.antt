@@ -138,6 +138,16 @@ module _ (f : ℕ → Bool) where
       go true e below = let s : p ≡ suc q = omega (arith, n (suc q) e (le-refl (suc q))) in rw s
       go false e below = skip (decLe p q) e below
 
+  -- tests that agree up to r have the same largest number
+  pub largest-agree : (h : ℕ → Bool) (r : ℕ) → ((c : ℕ) → c ≤ r → f c ≡ h c) → largest f r ≡ largest h r
+  unfolding largest
+  largest-agree h zero e = rw (e zero (omega arith), largest)
+  largest-agree h (suc r) e = go (h (suc r)) refl (largest-agree h r (λ c l. e c (omega arith)))
+    where
+      go : (x : Bool) → h (suc r) ≡ x → largest f r ≡ largest h r → largest f (suc r) ≡ largest h (suc r)
+      go true p q = rw (e (suc r) (omega arith) ∙ p, p, largest)
+      go false p q = rw (e (suc r) (omega arith) ∙ p, p, largest) q
+
   pub largest-self : (c : ℕ) → f c ≡ true → largest f c ≡ some c
   unfolding largest
   largest-self zero p = rw (p, largest)

@@ -19,7 +19,7 @@ use Rattle.formats.proofs.Accepted.{accepted, blocks, budget-fits}
 use Rattle.calls.specs.SheetGraph.{graph}
 use Rattle.calls.specs.Area.{areaSize, filled, Table}
 use Rattle.calls.specs.Weigh.{Weighing, sheetArea, smallArea, nothingFits, weighOrder, beforeWeighing, areaAfter, weighed}
-use Rattle.calls.proofs.Weigh.{spared, sheet-early}
+use Rattle.calls.proofs.Weigh.{spared, sheet-early, late-area}
 use Rattle.calls.proofs.Area.{filled-table}
 use Rattle.tables.specs.Tables.{optionOf}
 use Rattle.tables.proofs.Options.{option-none, option-some}
@@ -96,8 +96,7 @@ module _ (w area : List ℕ) where
           passes t = answer (le-ltb (length area) (sheetArea w) (omega (arith, asked))) t
 
           changes : (r : ℕ) → beforeWeighing r ≡ false → after ≡ areaAfter w r area
-          unfolding areaAfter
-          changes r t = rw (t, areaAfter) (f ∙ ap (λ (b : ℕ). filled (graph w) (header w .blocks) b area) q)
+          changes r t = f ∙ ap (λ (b : ℕ). filled (graph w) (header w .blocks) b area) q ∙ late-area w area r t
 
           pub nothing-fits : {x : ℕ} → optionOf x ≡ lowOf (graph w) 1 b → x ≡ 0 → Answers 9 after
           unfolding nothingFits any member from isNone
