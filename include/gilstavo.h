@@ -79,7 +79,7 @@ uint16_t gilstavo_edge_words(const uint16_t *sheet, size_t sheet_words, uint16_t
 /* Writes the starting walk: place 1, count 0, going. */
 void gilstavo_start(uint16_t walk[3]);
 
-/* Moves a walk on a graph sheet by one choice, watched by the completion costs: 1 to 8, 21, 9, 33, 32, 31, else 0.
+/* Moves a walk on a graph sheet by one choice, guarded by the completion costs: 1 to 8, 21, 9, 33, 32, 31, else 0.
  * Under 0 the walk is the walk after the move; under a refusal it keeps its content. The area is left as by gilstavo_weigh. */
 uint16_t gilstavo_guarded_move(const uint16_t *sheet, size_t sheet_words, uint8_t *area, size_t area_bytes, uint16_t walk[3],
                                  uint16_t choice);

@@ -44,7 +44,7 @@ impl Walk {
         Walk { place: row[0], count: row[1], end }
     }
 
-    /// A move on a graph sheet, watched by its completion costs: 1 to 8, 21, 9, 33, 32, 31. The work area is as after a weighing.
+    /// A move on a graph sheet, guarded by its completion costs: 1 to 8, 21, 9, 33, 32, 31. The work area is as after a weighing.
     pub fn guarded_move(&mut self, sheet: &[u16], area: &mut [u8], choice: u16) -> Result<(), Refusal> {
         let mut row = self.words();
         let answer = raw::guarded_move(sheet, area, &mut row, choice);

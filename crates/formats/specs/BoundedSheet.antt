@@ -56,7 +56,7 @@ pub record Heading : Type 0 where
 unfoldable pub heading : List ℕ → Heading
 heading s = record { copies = word s 0; edges = word s 1; budget = word s 2; records = 3 }
 
--- the length of a sheet with this header
+-- the length of a sheet with this header, "exactly 3 + 3C + 2F words": the three words of the header, and the records
 abbrev pub boundedLength : Heading → ℕ
 boundedLength h = h .records + 3 * h .copies + 2 * h .edges
 

@@ -21,7 +21,8 @@ pub record Header : Type 0 where
 unfoldable pub header : List ℕ → Header
 header w = record { blocks = word w 0; edges = word w 1; budget = word w 2; records = 3 }
 
--- the length of a sheet with this header: "N block records of two words", "E edge records of two words"
+-- the length of a sheet with this header, "exactly 3 + 2N + 2E words": the three words of the header, "N block records of two words",
+-- "E edge records of two words"
 abbrev pub sheetLength : Header → ℕ
 sheetLength h = h .records + 2 * h .blocks + 2 * h .edges
 
