@@ -11,14 +11,14 @@ use Rattle.base.specs.Checks.{refused, lentAfter}
 use Rattle.base.proofs.Orders.{over-stops, over-passes, refused-lent}
 use Rattle.formats.specs.GraphSheet.{header}
 use Rattle.formats.specs.BoundedSheet.{heading}
-use Rattle.calls.specs.SheetGraph.{sheetCopies, boundedSheet}
+use Rattle.calls.specs.SheetGraph.{task, sheetCopies, boundedSheet}
 use Rattle.calls.specs.Weigh.{Weighing, weighOrder, beforeWeighing, areaAfter, weighed}
 use Rattle.calls.specs.Build.{Lent, tooMany, smallOutput, buildOrder, outputAfter, build}
 use Rattle.calls.proofs.Weigh.{weigh-numbered, spared, late-area}
 use Rattle.build.specs.Within.{sheetAt, answerAt, outputAt}
 
 -- answers that both come after weighing leave the same area
-same-area : (w area : List ℕ) (a c : ℕ) → beforeWeighing a ≡ false → beforeWeighing c ≡ false → areaAfter w a area ≡ areaAfter w c area
+same-area : (w area : List ℕ) (a c : ℕ) → beforeWeighing a ≡ false → beforeWeighing c ≡ false → areaAfter (task w) a area ≡ areaAfter (task w) c area
 same-area w area a c p q = sym (late-area w area a p) ∙ late-area w area c q
 
 module _ (w area out : List ℕ) where
@@ -39,7 +39,7 @@ module _ (w area out : List ℕ) where
 
     pub refused-area : build lent .area ≡ weighed front .area
     unfolding build weighed
-    refused-area = ap (λ (x : ℕ). areaAfter w x area) (refused-answer ∙ sym e)
+    refused-area = ap (λ (x : ℕ). areaAfter (task w) x area) (refused-answer ∙ sym e)
 
     pub refused-output : build lent .output ≡ out
     unfolding build outputAfter

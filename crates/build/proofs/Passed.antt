@@ -12,9 +12,9 @@ use Rattle.theory.specs.Completions.{lowOf}
 use Rattle.formats.specs.Limits.{mostBlocks, mostBudget}
 use Rattle.formats.specs.GraphSheet.{header, sheetRefusal}
 use Rattle.formats.proofs.Accepted.{accepted, long, blocks, budget-fits}
-use Rattle.calls.specs.SheetGraph.{graph}
+use Rattle.calls.specs.SheetGraph.{task, graph}
 use Rattle.calls.specs.Area.{areaSize, filled, Table}
-use Rattle.calls.specs.Weigh.{sheetArea, beforeWeighing, weighed}
+use Rattle.calls.specs.Weigh.{taskArea, beforeWeighing, weighed}
 use Rattle.calls.proofs.Weigh.{Passed, weighs-e, spared, late-area}
 use Rattle.calls.proofs.Area.{filled-table}
 use Rattle.descend.specs.Marks.{Clear}
@@ -43,7 +43,7 @@ module _ (w area : List ℕ) (e : weighed (record { sheet = w; area = area }) .a
   area-filled = sym (late-area w area _ (ap beforeWeighing e ∙ spared 0))
 
   pub has-table : Table (graph w) (header w .blocks) (header w .budget) (weighed (record { sheet = w; area = area }) .area)
-  unfolding sheetArea
+  unfolding taskArea
   has-table =
       subst (Table (graph w) (header w .blocks) (header w .budget)) (sym area-filled)
       (filled-table (graph w) (header w .blocks) (header w .budget) area (passed .room))

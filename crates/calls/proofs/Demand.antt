@@ -19,8 +19,8 @@ use Rattle.theory.proofs.Shape.{monitor-kept, monitor-start, Held, held-shape, 
 use Rattle.formats.specs.Limits.{mostCopies, mostBoundedEdges}
 use Rattle.formats.specs.GraphSheet.{header}
 use Rattle.formats.specs.BoundedSheet.{heading, sheetWords}
-use Rattle.calls.specs.SheetGraph.{graph, boundedSheet, readBounded}
-use Rattle.calls.specs.Weigh.{sheetArea, weighOrder}
+use Rattle.calls.specs.SheetGraph.{task, graph, boundedSheet, readBounded}
+use Rattle.calls.specs.Weigh.{taskArea, weighOrder}
 use Rattle.calls.specs.Build.{tooMany, Lent, buildOrder, outputAfter, build}
 use Rattle.calls.specs.Moves.{Move, guardedReply, boundedMove}
 use Rattle.calls.specs.Demand.{byValue, boundedBlock, Demand3, KeepsDemand3}
@@ -65,10 +65,10 @@ module _ (w : List ℕ) (K : Buildable w) where
   monitor-shape : (ks : List ℕ) → InShape N 2 B (final (reply (monitor (graph w) B)) starting ks)
   monitor-shape ks = keeps-all (monitor (graph w) B) (InShape N 2 B) (monitor-kept S B) ks starting (monitor-start S B)
 
-  guarded-run : (ms : List Move) → ((i : Move) → List·Memᴰ i ms → sheetArea w ≤ length (i .area))
+  guarded-run : (ms : List Move) → ((i : Move) → List·Memᴰ i ms → taskArea (task w) ≤ length (i .area))
       → RunsAs (guardedReply w) (reply (monitor (graph w) B)) starting ms (map (λ i. i .choice) ms)
   guarded-run ms room =
-      runs-as (monitor (graph w) B) (guardedReply w) (λ i. i .choice) (InShape N 2 B) (λ i. sheetArea w ≤ length (i .area)) (monitor-kept S B)
+      runs-as (monitor (graph w) B) (guardedReply w) (λ i. i .choice) (InShape N 2 B) (λ i. taskArea (task w) ≤ length (i .area)) (monitor-kept S B)
       (λ s h i room. guarded-as w i s (K .start) (K .ok) room (K .opens) h) ms room starting (monitor-start S B)
 
   abbrev pub OnCopies : Walk → Type 0
@@ -102,7 +102,7 @@ module _ (w : List ℕ) (K : Buildable w) where
 
   -- while going, the choice 1 is answered 0
   guarded-next : (ks : List ℕ) (z : Walk) → z ≡ final (reply (monitor (graph w) B)) starting ks → z .end ≡ going
-      → (area : List ℕ) → sheetArea w ≤ length area → guardedReply w z (record { choice = 1; area = area }) .answer ≡ 0
+      → (area : List ℕ) → taskArea (task w) ≤ length area → guardedReply w z (record { choice = 1; area = area }) .answer ≡ 0
   guarded-next ks z q e area room =
       let i : Move = record { choice = 1; area = area } in
       ap (λ (s : Walk). guardedReply w s i .answer) q
@@ -132,7 +132,7 @@ module _ (w : List ℕ) (K : Buildable w) where
       let u = unchanged-as (bounded-run ks) (boundedBlock t) (λ s. s .end) bs in
       (λ l. u .0 (p .0 l), λ h. p .1 (u .1 h))
 
-  whole : (ms : List Move) → ((i : Move) → List·Memᴰ i ms → sheetArea w ≤ length (i .area)) → Demand3 byValue w t ms
+  whole : (ms : List Move) → ((i : Move) → List·Memᴰ i ms → taskArea (task w) ≤ length (i .area)) → Demand3 byValue w t ms
   unfolding readBounded mostMoves
   whole ms room =
       let ks = map (λ i. i .choice) ms in

@@ -17,9 +17,9 @@ use Rattle.theory.specs.Setting.{WellFormed}
 use Rattle.theory.proofs.Completions.{completes-sound, completes-complete, low-none, no-low}
 use Rattle.formats.specs.GraphSheet.{header, sheetRefusal}
 use Rattle.formats.proofs.Accepted.{accepted}
-use Rattle.calls.specs.SheetGraph.{graph}
+use Rattle.calls.specs.SheetGraph.{task, graph}
 use Rattle.calls.specs.Area.{byteOf, filled}
-use Rattle.calls.specs.Weigh.{Weighing, sheetArea, nothingFits, weighOrder, beforeWeighing, areaAfter, weighed}
+use Rattle.calls.specs.Weigh.{Weighing, taskArea, nothingFits, weighOrder, beforeWeighing, areaAfter, weighed}
 use Rattle.calls.specs.Build.{Lent, buildOrder, build}
 use Rattle.calls.specs.Moves.{GuardedInput, moved, guardedOrder, guardedReply, guardedMove}
 use Rattle.calls.specs.Filled.{NineIsExact, Holds, WeighingFills, BuildFills, MoveFills}
@@ -57,7 +57,7 @@ module _ (g : Graph) (L : WellFormed g) (v c : ℕ) {x : ℕ} (e : x ≡ byteOf 
     λ n. e ∙ ap byteOf (else-false (completes g v c) (λ q. n (completes-sound g L v c q))),
   )
 
-module _ (w area : List ℕ) (ok : sheetRefusal w ≡ 0) (room : sheetArea w ≤ length area) where
+module _ (w area : List ℕ) (ok : sheetRefusal w ≡ 0) (room : taskArea (task w) ≤ length area) where
   abbrev n : ℕ
   n = header w .blocks
 
@@ -68,21 +68,21 @@ module _ (w area : List ℕ) (ok : sheetRefusal w ≡ 0) (room : sheetArea w ≤
   L = well-formed w (accepted w ok)
 
   filled-holds : Holds w area (filled (graph w) n b area)
-  unfolding sheetArea
+  unfolding taskArea
   filled-holds =
       record {
         set = λ v c p q l. set-is (graph w) L v c (cell-filled (graph w) n b area room v c p q l);
         clear = λ v c p q l. clear-is (graph w) L v c (cell-filled (graph w) n b area room v c p q l);
         rest = λ i l.
-            let e : sheetArea w + (i - sheetArea w) ≡ i = omega arith in
-            rw e at (rest-untouched (graph w) n b area room (i - sheetArea w));
+            let e : taskArea (task w) + (i - taskArea (task w)) ≡ i = omega arith in
+            rw e at (rest-untouched (graph w) n b area room (i - taskArea (task w)));
         size = filled-length (graph w) n b area room;
       }
 
 -- an answer of an order that begins with weighing's, and the area after it
 holds-after : {J : Type 0} (f : J → Weighing) (qs : Order J) (j : J) {a : ℕ} → a ≡ refused (over f weighOrder ++ qs) j
     → beforeWeighing a ≡ false
-    → Holds (f j .sheet) (f j .area) (areaAfter (f j .sheet) a (f j .area))
+    → Holds (f j .sheet) (f j .area) (areaAfter (task (f j .sheet)) a (f j .area))
 holds-after f qs j {a} e late =
     let p = weighs-late f qs j (sym (ap beforeWeighing e) ∙ late) in
     let w = f j .sheet in

@@ -20,8 +20,8 @@ use Rattle.formats.specs.GraphSheet.{header, sheetRefusal}
 use Rattle.formats.specs.BoundedSheet.{heading}
 use Rattle.formats.specs.Rule11.{boundedOrder, boundedRefusal}
 use Rattle.formats.proofs.RuleKept.{bounded-numbered}
-use Rattle.calls.specs.SheetGraph.{graph, readBounded}
-use Rattle.calls.specs.Weigh.{sheetArea, weighOrder}
+use Rattle.calls.specs.SheetGraph.{task, graph, readBounded}
+use Rattle.calls.specs.Weigh.{taskArea, weighOrder}
 use Rattle.calls.proofs.Weigh.{weigh-numbered, weighs}
 use Rattle.calls.specs.Moves.{outOfShape, Standing, moveOrder, moved, Move, GuardedInput, onGraph, guardedOrder, guardedReply}
 use Rattle.calls.specs.Moves.{BoundedInput, onBounded, boundedMoveOrder, boundedMove}
@@ -130,7 +130,7 @@ in-shape n x m s h =
     (le-ltb m (s .count) (h .count))
 
 -- THE TWO CALLS on walks in shape and accepted sheets reply as the machines do
-pub guarded-as : (w : List ℕ) (i : Move) (s : Walk) (a : ℕ) → sheetRefusal w ≡ 0 → sheetArea w ≤ length (i .area)
+pub guarded-as : (w : List ℕ) (i : Move) (s : Walk) (a : ℕ) → sheetRefusal w ≡ 0 → taskArea (task w) ≤ length (i .area)
     → lowOf (graph w) 1 (header w .budget) ≡ some a
     → InShape (header w .blocks) 2 (header w .budget) s → guardedReply w s i ≡ reply (monitor (graph w) (header w .budget)) s (i .choice)
 unfolding guardedReply guardedOrder monitor

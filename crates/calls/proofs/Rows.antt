@@ -25,9 +25,9 @@ use Rattle.formats.specs.Listing.{digits, decimal, line, headingLine, copyLine,
 use Rattle.formats.specs.Catalogue.{sheetsUpTo, sheets}
 use Rattle.formats.specs.Report.{unusedBlocks, refusedAs, figuresLine, refusedLine, sheetLine, plus, sums, totalLine}
 use Rattle.formats.specs.Report.{greater, mostOf, most, mostLine, unusedLine, unusedLines, eachSheet, reportOf}
-use Rattle.calls.specs.SheetGraph.{graph, sheetCopies, rowOf, rowsOf, boundedSheet, readBounded}
+use Rattle.calls.specs.SheetGraph.{task, graph, sheetCopies, rowOf, rowsOf, boundedSheet, readBounded}
 use Rattle.calls.specs.Area.{areaSize, marks, byteOf, bytes, filled}
-use Rattle.calls.specs.Weigh.{sheetArea, smallArea, nothingFits, weighOrder, beforeWeighing, areaAfter}
+use Rattle.calls.specs.Weigh.{taskArea, smallArea, nothingFits, weighOrder, beforeWeighing, areaAfter}
 use Rattle.calls.specs.Build.{tooMany, smallOutput, buildOrder, outputAfter, build}
 use Rattle.calls.specs.Moves.{outOfShape, moveOrder, moved, guardedOrder, guardedReply, guardedMove, boundedMoveOrder, boundedMove}
 use Rattle.calls.specs.Program.{listingOrder, sheetListing, listing}
@@ -52,7 +52,7 @@ unfolding examples paper loop twice least inBytes text lines
     tooShort badLimits wrongLength largeBudget badBlocks badLows badCopyOrder copiesOf notOneOf
     badExit badEdgeOrder badTargetWords boundedOrder boundedRefusal
     wordOf wordsOf oddBytes digits decimal line headingLine copyLine listingOf refusalOf
-    graph sheetCopies rowOf rowsOf boundedSheet areaSize sheetArea
+    graph sheetCopies rowOf rowsOf boundedSheet areaSize taskArea
     smallArea nothingFits weighOrder tooMany smallOutput buildOrder build listingOrder sheetListing listing sheetShown outcome
 starred = refl
 
@@ -68,7 +68,7 @@ unfolding refusals six loop least sparing dear exitChained areaWith inBytes text
     tooShort badLimits wrongLength largeBudget badBlocks badLows badCopyOrder copiesOf notOneOf
     badExit badEdgeOrder badTargetWords boundedOrder boundedRefusal
     wordOf wordsOf oddBytes digits decimal line headingLine copyLine listingOf refusalOf
-    graph sheetCopies rowOf rowsOf boundedSheet readBounded marks byteOf bytes areaSize filled sheetArea
+    graph sheetCopies rowOf rowsOf boundedSheet readBounded marks byteOf bytes areaSize filled taskArea
     smallArea nothingFits weighOrder numbersOf numbersBefore beforeWeighing areaAfter tooMany smallOutput buildOrder outputAfter build
     outOfShape moveOrder moved guardedOrder guardedReply guardedMove boundedMoveOrder boundedMove listingOrder sheetListing listing
     sheetsUpTo sheets unusedBlocks refusedAs figuresLine refusedLine sheetLine plus sums totalLine

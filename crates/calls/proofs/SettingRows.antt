@@ -25,7 +25,7 @@ use Rattle.calls.specs.SheetGraph.{rowOf, rowsOf}
 
 module _ (S : Setting) where
   abbrev g : Graph
-  g = S .graph
+  g = S .task .graph
 
   abbrev cs : List Copy
   cs = copies S
@@ -46,7 +46,7 @@ module _ (S : Setting) where
   }
 
   pub rises : Rising cs
-  rises = copies-rise g (S .blocks) (S .largest) (starts S)
+  rises = copies-rise g (S .task .blocks) (S .task .largest) (starts S)
 
   pub apart : Distinct cs
   apart = rising-distinct cs rises
@@ -75,7 +75,7 @@ module _ (S : Setting) where
   -- RULE 11, the clauses that go by the records
 
   abbrev rows : List Row
-  rows = rowsOf (S .graph) (copies S)
+  rows = rowsOf (S .task .graph) (copies S)
 
   map-copy : (xs : List Copy) → map (λ (r : Row). r .copy) (map (rowOf g cs) xs) ≡ xs
   unfolding rowOf
@@ -101,7 +101,7 @@ module _ (S : Setting) where
   no-targets c e =
       ap (λ (ts : List ℕ). map (targetNumber cs) (map (copyFor g (c .low - g .cost (c .block))) ts)) (ap (g .next) e ∙ S .laws .closed)
 
-  row-fits : S .blocks ≤ mostBlocks → (c : Copy) → List·Memᴰ c cs → RowFits (length rows) (S .largest) (rowOf g cs c)
+  row-fits : S .task .blocks ≤ mostBlocks → (c : Copy) → List·Memᴰ c cs → RowFits (length rows) (S .task .largest) (rowOf g cs c)
   unfolding rowOf rowsOf
   row-fits few c m =
       let h = copy-sound S c m .1 in
@@ -120,7 +120,7 @@ module _ (S : Setting) where
             (omega (arith, l .0), omega (arith, l .1, length-map cs (rowOf g cs)));
       }
 
-  pub rows-fit : S .blocks ≤ mostBlocks → RowsFit (S .largest) rows
+  pub rows-fit : S .task .blocks ≤ mostBlocks → RowsFit (S .task .largest) rows
   unfolding rowsOf
   rows-fit few =
       let x = number-place (exitCopy S) cs (exit-in S) in
@@ -129,5 +129,5 @@ module _ (S : Setting) where
         two = once 2 (suc (x .0)) (exitCopy S) (x .2) refl (exit-only S);
         row = λ i r q.
             let c = copy-of i r q in
-            subst (RowFits (length rows) (S .largest)) (c .2) (row-fits few (c .0) (chosen-mem cs i (c .0) (c .1)));
+            subst (RowFits (length rows) (S .task .largest)) (c .2) (row-fits few (c .0) (chosen-mem cs i (c .0) (c .1)));
       }

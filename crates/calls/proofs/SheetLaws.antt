@@ -7,6 +7,7 @@ use mathlib.Core.Option.{some}
 use Prim.Native.Nat.{ℕ, _≤_}
 use native.Mathlib.Omega.{arith}
 use Rattle.theory.specs.Completions.{lowOf}
+use Rattle.theory.specs.Tasks.{taskAt}
 use Rattle.theory.specs.Setting.{WellFormed, Setting}
 use Rattle.formats.specs.GraphSheet.{header, successors}
 use Rattle.formats.proofs.Accepted.{Accepted, blocks, free, paid, source-inside, target-inside, no-successor}
@@ -35,12 +36,9 @@ inside w A v t m = target-inside w A v t m .1
 -- its setting at a budget that leaves block 1 a completion
 abbrev pub settingAt : (w : List ℕ) → Accepted w → (b a : ℕ) → lowOf (graph w) 1 b ≡ some a → Setting
 settingAt w A b a e = record {
-  graph = graph w;
+  task = taskAt (graph w) (header w .blocks) b;
   laws = well-formed w A;
-  blocks = header w .blocks;
   inside = inside w A;
-  budgets = b ∷ [];
-  largest = b;
   named = List·Memᴰ·head refl;
   most = λ c m. omega (arith, List·Memᴰ·eq-of-singleton m);
   start = a;

@@ -45,7 +45,7 @@ pub listed : (w : List ℕ) → refused listingOrder w ≡ 0 → Buildable w
 unfolding listingOrder sheetRefusal nothingFits tooMany
 listed w e =
     let o = append-e sheetOrder _ w graph-numbered e in
-    let a = unrefused 8 nothingFits _ w (o .1) in
+    let a = unrefused 8 _ _ w (o .1) in
     let l = some-low _ (a .0) in
     let m = or-false _ _ (unrefused 9 _ _ w (a .1) .0) in
     record { ok = o .0; start = l .0; opens = l .1; few = ltb-false mostCopies _ (m .0); edges = ltb-false mostBoundedEdges _ (m .1) }

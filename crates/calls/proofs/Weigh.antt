@@ -17,9 +17,9 @@ use Rattle.base.proofs.Orders.{Numbered, unrefused, passed, none-left, refused-
 use Rattle.theory.specs.Completions.{lowOf}
 use Rattle.formats.specs.GraphSheet.{header, sheetOrder, sheetRefusal}
 use Rattle.formats.proofs.Accepted.{graph-numbered}
-use Rattle.calls.specs.SheetGraph.{graph}
+use Rattle.calls.specs.SheetGraph.{task, graph}
 use Rattle.calls.specs.Area.{filled}
-use Rattle.calls.specs.Weigh.{Weighing, sheetArea, smallArea, nothingFits, weighOrder, beforeWeighing, areaAfter}
+use Rattle.calls.specs.Weigh.{Weighing, taskArea, smallArea, nothingFits, weighOrder, beforeWeighing, areaAfter}
 
 -- no number of the order is 0
 pub weigh-numbered : Numbered weighOrder
@@ -45,7 +45,7 @@ sheet-early w n =
 
 -- the area under any other answer is filled
 pub late-area : (w area : List ℕ) (a : ℕ) → beforeWeighing a ≡ false
-    → filled (graph w) (header w .blocks) (header w .budget) area ≡ areaAfter w a area
+    → filled (graph w) (header w .blocks) (header w .budget) area ≡ areaAfter (task w) a area
 unfolding areaAfter
 late-area w area a late = rw (late, areaAfter)
 
@@ -63,30 +63,30 @@ front-numbers a = refl
 
 -- an answer that is not one of them: the sheet passes, with area enough, whatever stands behind in the order
 module _ {J : Type 0} (f : J → Weighing) (qs : Order J) (j : J) where
-  behind-front : over f weighOrder ++ qs ≡ over f frontOrder ++ ((9, λ j. nothingFits (f j .sheet)) ∷ qs)
+  behind-front : over f weighOrder ++ qs ≡ over f frontOrder ++ ((9, λ j. nothingFits (task (f j .sheet))) ∷ qs)
   unfolding over sheetOrder weighOrder frontOrder
   behind-front = refl
 
   pub weighs-late : beforeWeighing (refused (over f weighOrder ++ qs) j) ≡ false
-      → (sheetRefusal (f j .sheet) ≡ 0) × (sheetArea (f j .sheet) ≤ length (f j .area))
+      → (sheetRefusal (f j .sheet) ≡ 0) × (taskArea (task (f j .sheet)) ≤ length (f j .area))
   unfolding sheetRefusal smallArea frontOrder
   weighs-late late = go (ℕ-discrete (refused frontOrder (f j)) 0)
     where
-      go : Dec (refused frontOrder (f j) ≡ 0) → (sheetRefusal (f j .sheet) ≡ 0) × (sheetArea (f j .sheet) ≤ length (f j .area))
+      go : Dec (refused frontOrder (f j) ≡ 0) → (sheetRefusal (f j .sheet) ≡ 0) × (taskArea (task (f j .sheet)) ≤ length (f j .area))
       go (yes e) =
           let o = over-e (λ i. i .sheet) sheetOrder ((21, smallArea) ∷ []) (f j) graph-numbered e in
           let a = unrefused 20 smallArea [] (f j) (o .1) in
-          (o .0, ltb-false (length (f j .area)) (sheetArea (f j .sheet)) (a .0))
+          (o .0, ltb-false (length (f j .area)) (taskArea (task (f j .sheet))) (a .0))
       go (no n) =
           let q : refused (over f weighOrder ++ qs) j ≡ refused frontOrder (f j)
-          = ap (λ (o : Order J). refused o j) behind-front ∙ over-stops f frontOrder ((9, λ j. nothingFits (f j .sheet)) ∷ qs) j n in
+          = ap (λ (o : Order J). refused o j) behind-front ∙ over-stops f frontOrder ((9, λ j. nothingFits (task (f j .sheet))) ∷ qs) j n in
           absurd (not-both (sym (front-numbers (refused frontOrder (f j))) ∙ refused-member frontOrder (f j) n)
           (sym (ap beforeWeighing q) ∙ late))
 
 -- a sheet that passes, with area enough, and what its budget leaves block 1
 pub record Passed (w area : List ℕ) : Type 0 where
   pub ok : sheetRefusal w ≡ 0
-  pub room : sheetArea w ≤ length area
+  pub room : taskArea (task w) ≤ length area
   pub start : ℕ
   pub opens : lowOf (graph w) 1 (header w .budget) ≡ some start
 
@@ -97,13 +97,13 @@ weighs-e i e =
     let a = unrefused 20 smallArea _ i (o .1) in
     let b = unrefused 8 _ _ i (a .1) in
     let l = some-low _ (b .0) in
-    record { ok = o .0; room = ltb-false (length (i .area)) (sheetArea (i .sheet)) (a .0); start = l .0; opens = l .1 }
+    record { ok = o .0; room = ltb-false (length (i .area)) (taskArea (task (i .sheet))) (a .0); start = l .0; opens = l .1 }
 
-pub weighs : (w area : List ℕ) (a : ℕ) → sheetRefusal w ≡ 0 → sheetArea w ≤ length area → lowOf (graph w) 1 (header w .budget) ≡ some a
+pub weighs : (w area : List ℕ) (a : ℕ) → sheetRefusal w ≡ 0 → taskArea (task w) ≤ length area → lowOf (graph w) 1 (header w .budget) ≡ some a
     → refused weighOrder (record { sheet = w; area = area }) ≡ 0
 unfolding weighOrder sheetRefusal smallArea nothingFits isNone
 weighs w area a e room low =
     let x : Weighing = record { sheet = w; area = area } in
-    let fits : nothingFits w ≡ false = ap isNone low in
+    let fits : nothingFits (task w) ≡ false = ap isNone low in
     over-i (λ i. i .sheet) sheetOrder _ x graph-numbered e
-    (passed 21 smallArea _ x (le-ltb (length area) (sheetArea w) room) (passed 9 _ _ x fits (none-left x)))
+    (passed 21 smallArea _ x (le-ltb (length area) (taskArea (task w)) room) (passed 9 _ _ x fits (none-left x)))

@@ -8,7 +8,7 @@ use lib.ListN.{length, drop}
 use Rattle.base.specs.Checks.{Order, refused, over, lentAfter}
 use Rattle.formats.specs.Limits.{mostCopies, mostBoundedEdges}
 use Rattle.formats.specs.BoundedSheet.{Heading, heading}
-use Rattle.calls.specs.SheetGraph.{boundedSheet}
+use Rattle.calls.specs.SheetGraph.{task, boundedSheet}
 use Rattle.calls.specs.Weigh.{Weighing, weighOrder, areaAfter}
 
 -- 10: "C above 4,096 or F above 8,192"
@@ -47,4 +47,4 @@ pub record Built : Type 0 where
 unfoldable pub build : Lent → Built
 build i =
     let a = refused buildOrder i in
-    record { answer = a; area = areaAfter (i .sheet) a (i .area); output = outputAfter (i .sheet) a (i .output) }
+    record { answer = a; area = areaAfter (task (i .sheet)) a (i .area); output = outputAfter (i .sheet) a (i .output) }

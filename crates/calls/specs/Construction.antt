@@ -12,19 +12,18 @@ use Rattle.base.specs.Copy.{Copy, copyOf, before}
 use Rattle.theory.specs.Completions.{Graph, Completion, IsLow, NoLow}
 use Rattle.theory.specs.Copies.{Reached}
 use Rattle.formats.specs.Limits.{wordLimit}
-use Rattle.formats.specs.GraphSheet.{header}
 use Rattle.formats.specs.BoundedSheet.{heading, boundedLength, copyAt, targetsAt}
 use Rattle.formats.specs.Rule11.{boundedRefusal}
-use Rattle.calls.specs.SheetGraph.{graph, boundedSheet}
+use Rattle.calls.specs.SheetGraph.{task, boundedSheet}
 use Rattle.calls.specs.Build.{Lent, build}
 
 -- w is the graph sheet, t the bounded sheet: its records are read, and nothing here is computed from the graph
 module _ (w t : List ℕ) where
   abbrev G : Graph
-  G = graph w
+  G = task w .graph
 
   abbrev B : ℕ
-  B = header w .budget
+  B = task w .largest
 
   -- a copy's number, the copy of its record, its block's cost, and the targets of its chain, in order
   abbrev pub IsPlace : ℕ → Type 0
@@ -34,7 +33,7 @@ module _ (w t : List ℕ) where
   copy i = copyAt (heading t) t i
 
   abbrev pub cost : ℕ → ℕ
-  cost i = graph w .cost (copy i .block)
+  cost i = task w .graph .cost (copy i .block)
 
   abbrev pub edges : ℕ → List ℕ
   edges i = targetsAt (heading t) t i

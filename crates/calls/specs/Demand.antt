@@ -8,10 +8,9 @@ use lib.ListN.{length}
 use Rattle.theory.specs.Machines.{End, Reply, going, reply, answers, final, zeros, Unchanged}
 use Rattle.theory.specs.Walks.{Walk, starting, monitor, Path}
 use Rattle.theory.specs.Setting.{MonitorActs}
-use Rattle.formats.specs.GraphSheet.{header}
 use Rattle.formats.specs.BoundedSheet.{heading, blockAt}
-use Rattle.calls.specs.SheetGraph.{graph}
-use Rattle.calls.specs.Weigh.{sheetArea}
+use Rattle.calls.specs.SheetGraph.{task}
+use Rattle.calls.specs.Weigh.{taskArea}
 use Rattle.calls.specs.Build.{Lent, build}
 use Rattle.calls.specs.Moves.{Move, guardedReply, boundedMove}
 use Rattle.calls.specs.Construction.{builtWords}
@@ -30,7 +29,7 @@ byValue = record { start = starting; guarded = guardedReply; bounded = boundedMo
 
 -- the monitor's step on a graph sheet (document 01: the watch)
 abbrev pub monitorStep : List ℕ → Walk → ℕ → Reply Walk
-monitorStep w = reply (monitor (graph w) (header w .budget))
+monitorStep w = reply (monitor (task w .graph) (task w .largest))
 
 -- the block that a bounded walk shows: "the block in the copy record at its place"
 abbrev pub boundedBlock : List ℕ → Walk → ℕ
@@ -42,7 +41,7 @@ module _ {S : Type 0} (x : Calls S) (w t : List ℕ) (ms : List Move) where
   choices = map (λ i. i .choice) ms
 
   abbrev B : ℕ
-  B = header w .budget
+  B = task w .largest
 
   -- the three rows of answers
   abbrev monitorAnswers : List ℕ
@@ -79,7 +78,7 @@ module _ {S : Type 0} (x : Calls S) (w t : List ℕ) (ms : List Move) where
 
   pub record Demand3 : Type 0 where
     -- "The watch of demand 3 is a plain machine", and its three rules
-    pub monitor-acts : MonitorActs (graph w) B
+    pub monitor-acts : MonitorActs (task w .graph) B
     -- "The three rows of answers are equal."
     pub guarded-answers : guardedAnswers ≡ monitorAnswers
     pub bounded-answers : boundedAnswers ≡ monitorAnswers
@@ -101,11 +100,11 @@ module _ {S : Type 0} (x : Calls S) (w t : List ℕ) (ms : List Move) where
     -- "If the walks are still going, some choice would be answered 0."
     pub monitor-onward : monitorEnd .end ≡ going → (k : ℕ) × (monitorStep w monitorEnd k .answer ≡ 0)
     pub guarded-onward : guardedEnd .end ≡ going
-        → (k : ℕ) × ((area : List ℕ) → sheetArea w ≤ length area → x .guarded w guardedLast (record { choice = k; area = area }) .answer ≡ 0)
+        → (k : ℕ) × ((area : List ℕ) → taskArea (task w) ≤ length area → x .guarded w guardedLast (record { choice = k; area = area }) .answer ≡ 0)
     pub bounded-onward : boundedEnd .end ≡ going → (k : ℕ) × (x .bounded t boundedLast k .answer ≡ 0)
     -- "A path .. runs unchanged when bounded moves answer 0 to each of its choices, show its blocks in order and end with exit. That is so
     -- exactly when its cost is at most B."
-    pub paths-kept : (ks bs : List ℕ) (c : ℕ) → Path (graph w) 1 ks bs c
+    pub paths-kept : (ks bs : List ℕ) (c : ℕ) → Path (task w .graph) 1 ks bs c
         → (c ≤ B) ↔ Unchanged (x .bounded t) blockShown endShown (x .start) ks bs
 
 -- THE DEMAND: of every build that answers 0, whatever it was lent, on the words that it filled, and of every list of choices, with any work
@@ -113,5 +112,5 @@ module _ {S : Type 0} (x : Calls S) (w t : List ℕ) (ms : List Move) where
 abbrev pub KeepsDemand3 : {S : Type 0} → Calls S → Type 0
 KeepsDemand3 x =
     (i : Lent) → build i .answer ≡ 0
-    → (ms : List Move) → ((m : Move) → List·Memᴰ m ms → sheetArea (i .sheet) ≤ length (m .area))
+    → (ms : List Move) → ((m : Move) → List·Memᴰ m ms → taskArea (task (i .sheet)) ≤ length (m .area))
     → Demand3 x (i .sheet) (builtWords i) ms

@@ -8,26 +8,26 @@ use Prim.Native.Nat.{ℕ, _≤_}
 use lib.ListN.{length, getD}
 use Rattle.theory.specs.Completions.{Completion, NoLow}
 use Rattle.theory.specs.Walks.{Walk}
-use Rattle.formats.specs.GraphSheet.{header, sheetRefusal}
-use Rattle.calls.specs.SheetGraph.{graph}
+use Rattle.formats.specs.GraphSheet.{sheetRefusal}
+use Rattle.calls.specs.SheetGraph.{task}
 use Rattle.calls.specs.Area.{cellOf}
-use Rattle.calls.specs.Weigh.{Weighing, sheetArea, nothingFits, beforeWeighing, weighed}
+use Rattle.calls.specs.Weigh.{Weighing, taskArea, nothingFits, beforeWeighing, weighed}
 use Rattle.calls.specs.Build.{Lent, build}
 use Rattle.calls.specs.Moves.{Move, guardedMove}
 
 -- "block 1 has no completion cost at or below B", of a sheet that passes 1 to 8
 abbrev pub NineIsExact : Type 0
-NineIsExact = (w : List ℕ) → sheetRefusal w ≡ 0 → (nothingFits w ≡ true) ↔ NoLow (graph w) 1 (header w .budget)
+NineIsExact = (w : List ℕ) → sheetRefusal w ≡ 0 → (nothingFits (task w) ≡ true) ↔ NoLow (task w .graph) 1 (task w .largest)
 
 -- an area before and after a call on the sheet w
 pub record Holds (w old new : List ℕ) : Type 0 where
   -- "its byte at (block − 1) × (B + 1) + cost is 1 where that block has that completion cost, else 0"
-  pub set : (v c : ℕ) → 1 ≤ v → v ≤ header w .blocks → c ≤ header w .budget
-      → (getD new (cellOf (header w .budget) v c) 0 ≡ 1) ↔ Completion (graph w) v c
-  pub clear : (v c : ℕ) → 1 ≤ v → v ≤ header w .blocks → c ≤ header w .budget
-      → (getD new (cellOf (header w .budget) v c) 0 ≡ 0) ↔ (Completion (graph w) v c → ⊥)
+  pub set : (v c : ℕ) → 1 ≤ v → v ≤ task w .blocks → c ≤ task w .largest
+      → (getD new (cellOf (task w .largest) v c) 0 ≡ 1) ↔ Completion (task w .graph) v c
+  pub clear : (v c : ℕ) → 1 ≤ v → v ≤ task w .blocks → c ≤ task w .largest
+      → (getD new (cellOf (task w .largest) v c) 0 ≡ 0) ↔ (Completion (task w .graph) v c → ⊥)
   -- "the rest is untouched"
-  pub rest : (i : ℕ) → sheetArea w ≤ i → getD new i 0 ≡ getD old i 0
+  pub rest : (i : ℕ) → taskArea (task w) ≤ i → getD new i 0 ≡ getD old i 0
   pub size : length new ≡ length old
 
 -- "After any other answer of a building or watched call", and so of weighing alone

@@ -8,10 +8,9 @@ use lib.ListN.{length}
 use Rattle.base.specs.Checks.{Order, refused, over, lentAfter, outside}
 use Rattle.theory.specs.Machines.{Reply, reply}
 use Rattle.theory.specs.Walks.{Walk, isExit, hasEnded, mostMoves, monitor, boundedWalk}
-use Rattle.formats.specs.GraphSheet.{header}
 use Rattle.formats.specs.BoundedSheet.{heading}
 use Rattle.formats.specs.Rule11.{boundedOrder}
-use Rattle.calls.specs.SheetGraph.{graph, readBounded}
+use Rattle.calls.specs.SheetGraph.{task, readBounded}
 use Rattle.calls.specs.Weigh.{Weighing, weighOrder, areaAfter}
 
 -- 33: a walk on n places, with the exit's at x and a count of at most m, is "out of shape: place outside the sheet; end exit and place 2
@@ -59,12 +58,12 @@ weighing i = record { sheet = i .sheet; area = i .area }
 
 abbrev pub onGraph : GuardedInput → Standing
 onGraph i =
-    let h = header (i .sheet) in
+    let T = task (i .sheet) in
     record {
-      places = h .blocks;
+      places = T .blocks;
       last = 2;
-      most = h .budget;
-      targets = graph (i .sheet) .next (i .walk .place);
+      most = T .largest;
+      targets = T .graph .next (i .walk .place);
       walk = i .walk;
       choice = i .choice;
     }
@@ -77,7 +76,7 @@ guardedOrder = over weighing weighOrder ++ over onGraph moveOrder
 unfoldable pub guardedReply : List ℕ → Walk → Move → Reply Walk
 guardedReply w s i =
     moved (refused guardedOrder (record { sheet = w; area = i .area; walk = s; choice = i .choice })) s
-    (reply (monitor (graph w) (header w .budget)) s (i .choice))
+    (reply (monitor (task w .graph) (task w .largest)) s (i .choice))
 
 -- THE CALL: the answer, the walk, and the content of the work area
 pub record Guarded : Type 0 where
@@ -88,7 +87,7 @@ pub record Guarded : Type 0 where
 unfoldable pub guardedMove : List ℕ → Walk → Move → Guarded
 guardedMove w s i =
     let r = guardedReply w s i in
-    record { answer = r .answer; walk = r .after; area = areaAfter w (r .answer) (i .area) }
+    record { answer = r .answer; walk = r .after; area = areaAfter (task w) (r .answer) (i .area) }
 
 -- A BOUNDED MOVE
 

@@ -8,13 +8,13 @@ use Rattle.formats.specs.GraphSheet.{sheetOrder}
 use Rattle.formats.specs.BoundedSheet.{heading}
 use Rattle.formats.specs.File.{wordsOf, oddBytes}
 use Rattle.formats.specs.Listing.{listingOf, refusalOf}
-use Rattle.calls.specs.SheetGraph.{boundedSheet}
+use Rattle.calls.specs.SheetGraph.{task, boundedSheet}
 use Rattle.calls.specs.Weigh.{nothingFits}
 use Rattle.calls.specs.Build.{tooMany}
 
 -- the build's numbers without 21 and 22: the program's own buffers are never too short
 unfoldable pub listingOrder : Order (List ℕ)
-listingOrder = sheetOrder ++ ((9, nothingFits) ∷ (10, λ w. tooMany (heading (boundedSheet w))) ∷ [])
+listingOrder = sheetOrder ++ ((9, λ w. nothingFits (task w)) ∷ (10, λ w. tooMany (heading (boundedSheet w))) ∷ [])
 
 -- of a graph sheet: its listing, "or `refused` and the number"
 unfoldable pub sheetListing : List ℕ → List ℕ

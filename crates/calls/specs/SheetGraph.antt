@@ -4,7 +4,8 @@ use mathlib.Core.List.{List, [], _∷_, map}
 use Prim.Native.Nat.{ℕ}
 use Rattle.base.specs.Copy.{Copy}
 use Rattle.theory.specs.Completions.{Graph}
-use Rattle.theory.specs.Copies.{targets, targetNumber, startCopies, copiesFrom}
+use Rattle.theory.specs.Copies.{targets, targetNumber}
+use Rattle.theory.specs.Tasks.{Task, taskAt, copiesIn}
 use Rattle.theory.specs.Walks.{Bounded}
 use Rattle.formats.specs.GraphSheet.{header, costWord, successors}
 use Rattle.formats.specs.BoundedSheet.{Row, sheetWords, heading, blockAt, targetsAt}
@@ -13,13 +14,13 @@ use Rattle.formats.specs.BoundedSheet.{Row, sheetWords, heading, blockAt, targe
 unfoldable pub graph : List ℕ → Graph
 graph w = record { cost = costWord (header w) w; next = successors (header w) w }
 
--- its copies within some budgets, the largest of which is b: those that are reached from the budgets' start copies
-abbrev pub copiesWithin : List ℕ → List ℕ → ℕ → List Copy
-copiesWithin w bs b = copiesFrom (graph w) (header w .blocks) b (startCopies (graph w) bs)
+-- THE TASK of a graph sheet: how words make one stands here alone
+abbrev pub task : List ℕ → Task
+task w = taskAt (graph w) (header w .blocks) (header w .budget)
 
--- its copies within its own budget
+-- its copies
 unfoldable pub sheetCopies : List ℕ → List Copy
-sheetCopies w = let b = header w .budget in copiesWithin w (b ∷ []) b
+sheetCopies w = copiesIn (task w)
 
 -- the row of a copy among the copies
 unfoldable pub rowOf : Graph → List Copy → Copy → Row
@@ -28,9 +29,12 @@ rowOf g cs c = record { copy = c; targetWords = map (targetNumber cs) (targets g
 unfoldable pub rowsOf : Graph → List Copy → List Row
 rowsOf g cs = map (rowOf g cs) cs
 
--- the bounded sheet of a graph sheet
+-- the bounded sheet of a task, and of a graph sheet
+abbrev pub boundedFor : Task → List ℕ
+boundedFor T = sheetWords (T .largest) (rowsOf (T .graph) (copiesIn T))
+
 unfoldable pub boundedSheet : List ℕ → List ℕ
-boundedSheet w = sheetWords (header w .budget) (rowsOf (graph w) (sheetCopies w))
+boundedSheet w = boundedFor (task w)
 
 -- the bounded graph of a bounded sheet, with the exit's place
 unfoldable pub readBounded : List ℕ → Bounded

@@ -8,8 +8,9 @@ use lib.ListN.{length}
 use Rattle.base.specs.Lists.{isNone, member}
 use Rattle.base.specs.Checks.{Order, refused, over, numbersOf, numbersBefore}
 use Rattle.theory.specs.Completions.{lowOf}
-use Rattle.formats.specs.GraphSheet.{header, sheetOrder}
-use Rattle.calls.specs.SheetGraph.{graph}
+use Rattle.theory.specs.Tasks.{Task}
+use Rattle.formats.specs.GraphSheet.{sheetOrder}
+use Rattle.calls.specs.SheetGraph.{task}
 use Rattle.calls.specs.Area.{areaSize, filled}
 
 -- what is lent: a graph sheet and a work area
@@ -17,30 +18,29 @@ pub record Weighing : Type 0 where
   pub sheet : List ℕ
   pub area : List ℕ
 
--- the length that a sheet asks of its work area
-unfoldable pub sheetArea : List ℕ → ℕ
-sheetArea w = areaSize (header w .blocks) (header w .budget)
+-- the length that a task asks of its work area
+unfoldable pub taskArea : Task → ℕ
+taskArea T = areaSize (T .blocks) (T .largest)
 
 -- 21: "work area (bytes) shorter than N × (B + 1)"
 unfoldable pub smallArea : Weighing → Bool
-smallArea i = ltb (length (i .area)) (sheetArea (i .sheet))
+smallArea i = ltb (length (i .area)) (taskArea (task (i .sheet)))
 
 -- 9: "block 1 has no completion cost at or below B"
-unfoldable pub nothingFits : List ℕ → Bool
-nothingFits w = isNone (lowOf (graph w) 1 (header w .budget))
+unfoldable pub nothingFits : Task → Bool
+nothingFits T = isNone (lowOf (T .graph) 1 (T .largest))
 
 -- "1 to 8, 21, 9", with which both orders begin
 unfoldable pub weighOrder : Order Weighing
-weighOrder = over (λ i. i .sheet) sheetOrder ++ ((21, smallArea) ∷ (9, λ i. nothingFits (i .sheet)) ∷ [])
+weighOrder = over (λ i. i .sheet) sheetOrder ++ ((21, smallArea) ∷ (9, λ i. nothingFits (task (i .sheet))) ∷ [])
 
 -- "each number checked before 9"
 unfoldable pub beforeWeighing : ℕ → Bool
 beforeWeighing a = member a (numbersBefore 9 (numbersOf weighOrder))
 
--- the work area after a building or guarded call that answered a
-unfoldable pub areaAfter : List ℕ → ℕ → List ℕ → List ℕ
-areaAfter w a area =
-    elim (beforeWeighing a) [ true ↦ area | false ↦ filled (graph w) (header w .blocks) (header w .budget) area ]
+-- the work area after a building or guarded call on a task that answered a
+unfoldable pub areaAfter : Task → ℕ → List ℕ → List ℕ
+areaAfter T a area = elim (beforeWeighing a) [ true ↦ area | false ↦ filled (T .graph) (T .blocks) (T .largest) area ]
 
 -- THE CALL: the answer, and the content of the work area
 pub record Weighed : Type 0 where
@@ -48,4 +48,4 @@ pub record Weighed : Type 0 where
   pub area : List ℕ
 
 unfoldable pub weighed : Weighing → Weighed
-weighed i = let a = refused weighOrder i in record { answer = a; area = areaAfter (i .sheet) a (i .area) }
+weighed i = let a = refused weighOrder i in record { answer = a; area = areaAfter (task (i .sheet)) a (i .area) }

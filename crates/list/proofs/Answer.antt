@@ -17,8 +17,9 @@ use Rattle.formats.specs.GraphSheet.{header, sheetOrder, sheetRefusal}
 use Rattle.formats.specs.BoundedSheet.{sheetWords, heading, boundedLength}
 use Rattle.formats.specs.Rule11.{boundedRefusal}
 use Rattle.formats.proofs.Accepted.{accepted, budget-fits, graph-numbered}
-use Rattle.calls.specs.SheetGraph.{graph, sheetCopies, rowsOf, boundedSheet}
-use Rattle.calls.specs.Weigh.{Weighing, sheetArea, smallArea, nothingFits, weighOrder}
+use Rattle.theory.specs.Tasks.{copiesIn}
+use Rattle.calls.specs.SheetGraph.{task, graph, sheetCopies, rowsOf, boundedSheet}
+use Rattle.calls.specs.Weigh.{Weighing, taskArea, smallArea, nothingFits, weighOrder}
 use Rattle.calls.specs.Build.{Lent, tooMany, smallOutput, buildOrder, outputAfter, build}
 use Rattle.calls.specs.Program.{listingOrder}
 use Rattle.calls.proofs.Weigh.{weigh-numbered}
@@ -32,7 +33,7 @@ use Rattle.list.specs.Rows.{mostCells, mostWords, frontSheet}
 -- the length of a bounded sheet by its header
 sheet-is : (w : List ℕ) → length (boundedSheet w) ≡ boundedLength (heading (boundedSheet w))
 unfolding boundedSheet heading sheetWords
-sheet-is w = sheet-length (header w .budget) (rowsOf (graph w) (sheetCopies w))
+sheet-is w = sheet-length (task w .largest) (rowsOf (task w .graph) (copiesIn (task w)))
 
 -- few enough copies and edges fit the row
 words-fit : (w : List ℕ) → tooMany (heading (boundedSheet w)) ≡ false → length (boundedSheet w) ≤ mostWords
@@ -63,25 +64,25 @@ module _ (w area out : List ℕ) where
 
     module _ (ok : sheetRefusal w ≡ 0) where
       no-21 : smallArea weighing ≡ false
-      unfolding smallArea sheetArea
+      unfolding smallArea taskArea
       no-21 =
           let few = few-cells w (header w .budget) ok (budget-fits w (accepted w ok)) in
-          le-ltb (length area) (sheetArea w) (omega arith)
+          le-ltb (length area) (taskArea (task w)) (omega arith)
 
       no-22 : tooMany (heading (boundedSheet w)) ≡ false → smallOutput w out ≡ false
       unfolding smallOutput
       no-22 e = le-ltb (length out) (length (boundedSheet w)) (omega (arith, words-fit w e))
 
       -- 9
-      weighs : {b : Bool} → nothingFits w ≡ b → refused weighOrder weighing ≡ pick b 9 0
+      weighs : {b : Bool} → nothingFits (task w) ≡ b → refused weighOrder weighing ≡ pick b 9 0
       unfolding sheetRefusal weighOrder
       weighs e =
           over-passes (λ (i : Weighing). i .sheet) sheetOrder _ weighing graph-numbered ok
           ∙ tested 21 smallArea _ weighing no-21 (tested 9 _ _ weighing e (none-left weighing))
 
-      lists : {b c : Bool} → nothingFits w ≡ b → tooMany (heading (boundedSheet w)) ≡ c → refused listingOrder w ≡ pick b 9 (pick c 10 0)
+      lists : {b c : Bool} → nothingFits (task w) ≡ b → tooMany (heading (boundedSheet w)) ≡ c → refused listingOrder w ≡ pick b 9 (pick c 10 0)
       unfolding sheetRefusal listingOrder
-      lists e f = append-passes sheetOrder _ w graph-numbered ok ∙ tested 9 nothingFits _ w e (tested 10 _ _ w f (none-left w))
+      lists e f = append-passes sheetOrder _ w graph-numbered ok ∙ tested 9 (λ w. nothingFits (task w)) _ w e (tested 10 _ _ w f (none-left w))
 
       -- 10 and 22
       abbrev behind : Order Lent
@@ -93,9 +94,9 @@ module _ (w area out : List ℕ) where
 
       by-counts : refused buildOrder lent ≡ refused listingOrder w
       unfolding buildOrder
-      by-counts = go (nothingFits w) (tooMany (heading (boundedSheet w))) refl refl
+      by-counts = go (nothingFits (task w)) (tooMany (heading (boundedSheet w))) refl refl
         where
-          go : (b c : Bool) → nothingFits w ≡ b → tooMany (heading (boundedSheet w)) ≡ c → refused buildOrder lent ≡ refused listingOrder w
+          go : (b c : Bool) → nothingFits (task w) ≡ b → tooMany (heading (boundedSheet w)) ≡ c → refused buildOrder lent ≡ refused listingOrder w
           go true c e f =
               let nine = weighs e in
               over-stops weighing-of weighOrder behind lent (λ z. omega (arith, nine)) ∙ nine ∙ sym (lists e f)

@@ -11,9 +11,9 @@ use Rattle.formats.specs.GraphSheet.{header, sheetRefusal}
 use Rattle.formats.specs.BoundedSheet.{heading}
 use Rattle.formats.specs.Rule11.{boundedOrder, boundedRefusal}
 use Rattle.formats.proofs.RuleKept.{bounded-numbered}
-use Rattle.calls.specs.SheetGraph.{graph, readBounded}
+use Rattle.calls.specs.SheetGraph.{task, graph, readBounded}
 use Rattle.calls.specs.Area.{filled, Table}
-use Rattle.calls.specs.Weigh.{Weighing, sheetArea, weighOrder, beforeWeighing, areaAfter, weighed}
+use Rattle.calls.specs.Weigh.{Weighing, taskArea, weighOrder, beforeWeighing, areaAfter, weighed}
 use Rattle.calls.specs.Moves.{outOfShape, Move, GuardedInput, onGraph, guardedOrder, guardedReply, guardedMove}
 use Rattle.calls.specs.Moves.{BoundedInput, onBounded, boundedMoveOrder, boundedMove}
 use Rattle.calls.proofs.Area.{filled-table}
@@ -44,19 +44,19 @@ module _ (w area : List ℕ) (s : Walk) (k : ℕ) where
   Guarded a s′ after =
       (a ≡ guardedMove w s given .answer) × ((s′ ≡ guardedMove w s given .walk) × (after ≡ guardedMove w s given .area))
 
-  guarded : (r : Reply Walk) {after : List ℕ} → guardedReply w s given ≡ r → after ≡ areaAfter w (r .answer) area
+  guarded : (r : Reply Walk) {after : List ℕ} → guardedReply w s given ≡ r → after ≡ areaAfter (task w) (r .answer) area
       → Guarded (r .answer) (r .after) after
   unfolding guardedMove
   guarded r e q = (
     ap (λ (x : Reply Walk). x .answer) (sym e),
-    (ap (λ (x : Reply Walk). x .after) (sym e), q ∙ ap (λ (x : Reply Walk). areaAfter w (x .answer) area) (sym e)),
+    (ap (λ (x : Reply Walk). x .after) (sym e), q ∙ ap (λ (x : Reply Walk). areaAfter (task w) (x .answer) area) (sym e)),
   )
 
   -- weighing's answer a and the area after it
   module _ {a : ℕ} {after : List ℕ} (q : a ≡ weighed lent .answer) (r : after ≡ weighed lent .area) where
-    area-is : after ≡ areaAfter w a area
+    area-is : after ≡ areaAfter (task w) a area
     unfolding weighed
-    area-is = r ∙ ap (λ (x : ℕ). areaAfter w x area) (sym q)
+    area-is = r ∙ ap (λ (x : ℕ). areaAfter (task w) x area) (sym q)
 
     pub weigh-refused : (a ≡ 0 → ⊥) → Guarded a s after
     unfolding guardedReply guardedOrder weighed
@@ -75,11 +75,11 @@ module _ (w area : List ℕ) (s : Walk) (k : ℕ) where
       unfolding any member from
       filled-is = area-is ∙ sym (late-area w area a (ap beforeWeighing z ∙ spared 0))
 
-      late : (c : ℕ) → beforeWeighing c ≡ false → after ≡ areaAfter w c area
+      late : (c : ℕ) → beforeWeighing c ≡ false → after ≡ areaAfter (task w) c area
       late c f = filled-is ∙ late-area w area c f
 
       pub area-table : {b : ℕ} → b ≡ header w .budget → Table (graph w) (header w .blocks) b after
-      unfolding sheetArea
+      unfolding taskArea
       area-table e = rw (e, filled-is) (filled-table (graph w) (header w .blocks) (header w .budget) area (passed .room))
 
       -- the walk's shape, as it is tested

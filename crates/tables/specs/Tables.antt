@@ -11,7 +11,8 @@ use Rattle.base.specs.Copy.{Copy, copyOf, isIn}
 use Rattle.theory.specs.Completions.{Graph, lowOf}
 use Rattle.theory.specs.Copies.{copyFor, targetNumber}
 use Rattle.formats.specs.GraphSheet.{header}
-use Rattle.calls.specs.SheetGraph.{graph, copiesWithin}
+use Rattle.theory.specs.Tasks.{taskAt, copiesIn}
+use Rattle.calls.specs.SheetGraph.{graph}
 use Rattle.calls.specs.Area.{cellOf, areaSize}
 
 -- an option as a number: 0 for none, else one more
@@ -30,7 +31,7 @@ marked b marks v l = not (eqb (getD marks (cellOf b v l) 0) 0)
 
 -- the copies of a sheet within the budget b
 abbrev pub sheetCopiesAt : List ℕ → ℕ → List Copy
-sheetCopiesAt w b = copiesWithin w (b ∷ []) b
+sheetCopiesAt w b = copiesIn (taskAt (graph w) (header w .blocks) b)
 
 -- the copies of the sheet are marked, and no other
 pub record Exactly (w : List ℕ) (b : ℕ) (marks : List ℕ) : Type 0 where

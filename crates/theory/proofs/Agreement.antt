@@ -67,7 +67,7 @@ module _ (m : Bounded) where
 -- the first copy is one of block 1
 pub first-copy : (S : Setting) → (d : Copy) × (chosen (copies S) 1 ≡ some d) × (d .block ≡ 1)
 first-copy S =
-    let E : Entry S = record { budget = S .largest; named = S .named; low = S .start; fits = S .opens } in
+    let E : Entry S = record { budget = S .task .largest; named = S .named; low = S .start; fits = S .opens } in
     let c = number-place (startCopy S E) (copies S) (start-in S E) in
     let f = chosen-some (copies S) 1 (omega arith) (omega (arith, chosen-le (copies S) (suc (c .0)) _ (c .2))) in
     (f .0, f .1, go (c .0) (c .2) (f .0) (f .1))
@@ -75,7 +75,7 @@ first-copy S =
     go : (i : ℕ) → chosen (copies S) (suc i) ≡ some (copyOf 1 (S .start)) → (d : Copy) → chosen (copies S) 1 ≡ some d → d .block ≡ 1
     go zero q d p = ap (λ (c : Copy). c .block) (Option·some-injective d _ (sym p ∙ q))
     go (suc i) q d p =
-        let b = rising-chosen (copies S) (copies-rise (S .graph) (S .blocks) (S .largest) (starts S)) 1 (suc (suc i)) d _
+        let b = rising-chosen (copies S) (copies-rise (S .task .graph) (S .task .blocks) (S .task .largest) (starts S)) 1 (suc (suc i)) d _
         (omega arith) p q in
         let l : 1 ≤ d .block = copy-sound S d (chosen-mem (copies S) 1 d p) .1 .place .0 in
         ⊎-elim (λ x. omega arith) (λ x. x .0) (before-cases d (copyOf 1 (S .start)) b)
@@ -89,7 +89,7 @@ within-most g L b u h diverted e = h .total
 
 module _ (S : Setting) (m : Bounded) (Y : LaysOut S m) where
   abbrev g : Graph
-  g = S .graph
+  g = S .task .graph
 
   abbrev cs : List Copy
   cs = copies S
@@ -105,7 +105,7 @@ module _ (S : Setting) (m : Bounded) (Y : LaysOut S m) where
   same-end d p i q = endAt-same 2 (m .last) (d .block) p (go (ℕ-discrete (d .block) 2))
     where
       distinct : Distinct cs
-      distinct = rising-distinct cs (copies-rise g (S .blocks) (S .largest) (starts S))
+      distinct = rising-distinct cs (copies-rise g (S .task .blocks) (S .task .largest) (starts S))
 
       at-last : p ≡ m .last → d .block ≡ 2
       at-last e = ap (λ (c : Copy). c .block) (Option·some-injective d (exitCopy S) (sym q ∙ ap (chosen cs) e ∙ Y .last))

@@ -182,30 +182,30 @@ spread-le g ss (suc n) k c l m = go (decLe k n) (spread-le g ss n k c)
 
 module _ (S : Setting) where
   abbrev g : Graph
-  g = S .graph
+  g = S .task .graph
 
-  abbrev L : WellFormed (S .graph)
+  abbrev L : WellFormed (S .task .graph)
   L = S .laws
 
   -- there are the start and the exit
-  pub two : 2 ≤ S .blocks
+  pub two : 2 ≤ S .task .blocks
   two =
-      let e = edge-of g L (low-some g L 1 (S .largest) (S .start) (S .opens) .cost) (λ e. omega arith) in
+      let e = edge-of g L (low-some g L 1 (S .task .largest) (S .start) (S .opens) .cost) (λ e. omega arith) in
       omega (arith, L .above 1 (e .0) (e .1), S .inside 1 (e .0) (e .1))
 
   -- what holds of a copy reached by j edges
   pub record Sound (j : ℕ) (c : Copy) : Type 0 where
     pub cost : Completion g (c .block) (c .low)
-    pub time : j + c .low ≤ suc (S .largest)
-    pub small : c .low ≤ S .largest
-    pub place : (1 ≤ c .block) × (c .block ≤ S .blocks)
+    pub time : j + c .low ≤ suc (S .task .largest)
+    pub small : c .low ≤ S .task .largest
+    pub place : (1 ≤ c .block) × (c .block ≤ S .task .blocks)
     pub first : c .block ≡ 1 → (j ≡ 0) × List·Memᴰ c (starts S)
 
   pub sound : {j : ℕ} {c : Copy} → Reached g (starts S) j c → Sound j c
   sound (start {c = c} m) =
-      let e = start-e g (S .budgets) c m in
+      let e = start-e g (S .task .budgets) c m in
       let w = low-some g L 1 (e .0) (c .low) (e .3) in
-      let l : c .low ≤ S .largest = omega (arith, w .below, S .most (e .0) (e .1)) in
+      let l : c .low ≤ S .task .largest = omega (arith, w .below, S .most (e .0) (e .1)) in
       record {
         cost = subst (λ (v : ℕ). Completion g v (c .low)) (sym (e .2)) (w .cost);
         time = omega arith;
@@ -223,30 +223,30 @@ module _ (S : Setting) where
         first = λ q. absurd (away L (c .block) (d .block) m q);
       }
     where
-      time : Sound j c → Dec (c .block ≡ 1) → suc j + d .low ≤ suc (S .largest)
+      time : Sound j c → Dec (c .block ≡ 1) → suc j + d .low ≤ suc (S .task .largest)
       time h (yes q) = omega (arith, h .first q .0, w .below, h .small)
       time h (no q) = omega (arith, L .paid (c .block) (d .block) m q, w .below, h .time)
 
   start-paid : (c : Copy) → List·Memᴰ c (starts S) → g .cost (c .block) ≤ c .low
-  start-paid c m = omega (arith, ap (g .cost) (start-e g (S .budgets) c m .2), L .free)
+  start-paid c m = omega (arith, ap (g .cost) (start-e g (S .task .budgets) c m .2), L .free)
 
   abbrev all-reached : List Copy
-  all-reached = spread g (suc (S .largest)) (starts S)
+  all-reached = spread g (suc (S .task .largest)) (starts S)
 
   -- a copy is one of the setting's exactly where it is reached
   pub reached-in : (j : ℕ) (c : Copy) → Reached g (starts S) j c → List·Memᴰ c (copies S)
   unfolding copiesFrom
   reached-in j c r =
       let h = sound r in
-      keep-i (λ c. isIn c all-reached) (candidates (S .blocks) (S .largest)) (candidate (S .blocks) (S .largest) c (h .place) (h .small))
+      keep-i (λ c. isIn c all-reached) (candidates (S .task .blocks) (S .task .largest)) (candidate (S .task .blocks) (S .task .largest) c (h .place) (h .small))
       (mem-isIn c all-reached
-      (spread-le g (starts S) (suc (S .largest)) j c (omega (arith, h .time)) (reached-spread g L (starts S) start-paid r)))
+      (spread-le g (starts S) (suc (S .task .largest)) j c (omega (arith, h .time)) (reached-spread g L (starts S) start-paid r)))
 
   pub in-reached : (c : Copy) → List·Memᴰ c (copies S) → (j : ℕ) × Reached g (starts S) j c
   unfolding copiesFrom
   in-reached c m =
-      spread-reached g L (starts S) start-paid (suc (S .largest)) c
-      (isIn-mem c _ (keep-e (λ c. isIn c all-reached) (candidates (S .blocks) (S .largest)) m .1))
+      spread-reached g L (starts S) start-paid (suc (S .task .largest)) c
+      (isIn-mem c _ (keep-e (λ c. isIn c all-reached) (candidates (S .task .blocks) (S .task .largest)) m .1))
 
   pub copy-sound : (c : Copy) → List·Memᴰ c (copies S) → (j : ℕ) × Sound j c
   copy-sound c m = let r = in-reached c m in (r .0, sound (r .1))
@@ -257,11 +257,11 @@ module _ (S : Setting) where
 
   -- every entry's start copy is a copy, and a copy of block 1 is the start copy of an entry
   pub start-in : (E : Entry S) → List·Memᴰ (startCopy S E) (copies S)
-  start-in E = reached-in 0 (startCopy S E) (start (start-i g (S .budgets) (E .budget) (E .low) (E .named) (E .fits)))
+  start-in E = reached-in 0 (startCopy S E) (start (start-i g (S .task .budgets) (E .budget) (E .low) (E .named) (E .fits)))
 
   pub entry-of : (c : Copy) → List·Memᴰ c (starts S) → (E : Entry S) × (startCopy S E ≡ c)
   entry-of c m =
-      let e = start-e g (S .budgets) c m in
+      let e = start-e g (S .task .budgets) c m in
       (record { budget = e .0; named = e .1; low = c .low; fits = e .3 }, λ i. record { block = sym (e .2) i; low = c .low })
 
   pub start-only : (c : Copy) → List·Memᴰ c (copies S) → c .block ≡ 1 → (E : Entry S) × (startCopy S E ≡ c)
@@ -276,8 +276,8 @@ module _ (S : Setting) where
 
   pub exit-in : List·Memᴰ (exitCopy S) (copies S)
   exit-in =
-      let r = to-exit (low-some g L 1 (S .largest) (S .start) (S .opens) .cost) 0
-      (start (start-i g (S .budgets) (S .largest) (S .start) (S .named) (S .opens))) in
+      let r = to-exit (low-some g L 1 (S .task .largest) (S .start) (S .opens) .cost) 0
+      (start (start-i g (S .task .budgets) (S .task .largest) (S .start) (S .named) (S .opens))) in
       reached-in (r .0) (exitCopy S) (r .1)
 
   pub exit-only : (c : Copy) → List·Memᴰ c (copies S) → c .block ≡ 2 → c ≡ exitCopy S

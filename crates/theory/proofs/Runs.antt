@@ -91,6 +91,13 @@ stays {S} m s n (k ∷ ks) = ap (λ (x : S). final (reply m) x ks) (one (m .stan
     one exit p = ap (λ (x : End). replyAt m x s k .after) p
     one diverted p = ap (λ (x : End). replyAt m x s k .after) p
 
+-- a list after another
+pub final-append : {S I : Type 0} (step : S → I → Reply S) (is js : List I) (s : S)
+    → final step s (is ++ js) ≡ final step (final step s is) js
+unfolding final
+final-append step [] js s = refl
+final-append step (i ∷ is) js s = final-append step is js (step s i .after)
+
 -- steps of one kind over a list run as steps of another over another list
 pub record RunsAs {S I J : Type 0} (call : S → I → Reply S) (step : S → J → Reply S) (s : S) (is : List I) (js : List J) : Type 0 where
   pub answer : answers call s is ≡ answers step s js

@@ -39,15 +39,15 @@ ended-take x s e h (suc t) = entered-shape x (suc t)
 -- THE MONITOR
 module _ (S : Setting) (b : ℕ) where
   abbrev g : Graph
-  g = S .graph
+  g = S .task .graph
 
-  pub monitor-kept : (s : Walk) → InShape (S .blocks) 2 b s → monitor g b .stands s ≡ going → (k t : ℕ)
+  pub monitor-kept : (s : Walk) → InShape (S .task .blocks) 2 b s → monitor g b .stands s ≡ going → (k t : ℕ)
       → chosen (monitor g b .targets s) k ≡ some t
-      → InShape (S .blocks) 2 b (monitor g b .take s t)
+      → InShape (S .task .blocks) 2 b (monitor g b .take s t)
   unfolding monitor monitorTake isExit
   monitor-kept s h e k t q = go (fits g b (s .count) t) refl
     where
-      go : (f : Bool) → fits g b (s .count) t ≡ f → InShape (S .blocks) 2 b (monitorTake g b s t (fits g b (s .count) t))
+      go : (f : Bool) → fits g b (s .count) t ≡ f → InShape (S .task .blocks) 2 b (monitorTake g b s t (fits g b (s .count) t))
       go false p = rw p (record { place = h .place; ended = sym (ap isExit e) ∙ h .ended; count = h .count })
       go true p =
           let v = fits-e g (S .laws) b (s .count) t p in
@@ -59,7 +59,7 @@ module _ (S : Setting) (b : ℕ) where
             count = omega (arith, v .2);
           })
 
-  pub monitor-start : InShape (S .blocks) 2 b starting
+  pub monitor-start : InShape (S .task .blocks) 2 b starting
   unfolding startAt isExit
   monitor-start = record { place = omega (arith, two S); ended = refl; count = omega arith }
 
@@ -68,7 +68,7 @@ module _ (S : Setting) (m : Bounded) (Y : LaysOut S m) (E : Entry S) where
   pub record Held (s : Walk) : Type 0 where
     pub on : CopyWalk
     pub sits : Sits S m Y on s
-    pub time : Timely (S .graph) (S .laws) (E .budget) on
+    pub time : Timely (S .task .graph) (S .laws) (E .budget) on
     pub ended : isExit (s .end) ≡ eqb (s .place) (m .last)
 
   pub held-shape : (s : Walk) → Held s → InShape (m .size) (m .last) (mostMoves (E .budget) (s .end)) s
@@ -77,26 +77,26 @@ module _ (S : Setting) (m : Bounded) (Y : LaysOut S m) (E : Entry S) where
       record {
         place = (p .0, omega (arith, p .1, Y .size));
         ended = h .ended;
-        count = omega (arith, h .sits .count, within-most (S .graph) (S .laws) (E .budget) (h .on) (h .time) (s .end) (h .sits .end));
+        count = omega (arith, h .sits .count, within-most (S .task .graph) (S .laws) (E .budget) (h .on) (h .time) (s .end) (h .sits .end));
       }
 
   pub held-kept : (s : Walk) → Held s → boundedWalk m .stands s ≡ going → (k x : ℕ) → chosen (boundedWalk m .targets s) k ≡ some x
       → Held (boundedWalk m .take s x)
   unfolding boundedWalk
   held-kept s h e k x q =
-      go (chosen (targets (S .graph) (h .on .copy)) k) refl
-      (sym (chosen-map (targetNumber (copies S)) (targets (S .graph) (h .on .copy)) k)
+      go (chosen (targets (S .task .graph) (h .on .copy)) k) refl
+      (sym (chosen-map (targetNumber (copies S)) (targets (S .task .graph) (h .on .copy)) k)
       ∙ sym (ap (λ (l : List ℕ). chosen l k) (Y .next (s .place) (h .on .copy) (h .sits .place))) ∙ q)
     where
-      go : (o : Option (Option Copy)) → chosen (targets (S .graph) (h .on .copy)) k ≡ o → Option·map (targetNumber (copies S)) o ≡ some x
+      go : (o : Option (Option Copy)) → chosen (targets (S .task .graph) (h .on .copy)) k ≡ o → Option·map (targetNumber (copies S)) o ≡ some x
           → Held (boundedTake (m .last) s x)
       go none p r = absurd (Option·none-ne-some x r)
       go (some o) p r =
           subst (λ (y : ℕ). Held (boundedTake (m .last) s y)) (Option·some-injective _ x r)
           (record {
             on = copyTake (h .on) o;
-            sits = sits-take S m Y (h .on) s (h .sits) o (chosen-mem (targets (S .graph) (h .on .copy)) k o p);
-            time = timely-take (S .graph) (S .laws) (E .budget) (h .on) (h .time) (h .sits .end ∙ e) k o p;
+            sits = sits-take S m Y (h .on) s (h .sits) o (chosen-mem (targets (S .task .graph) (h .on .copy)) k o p);
+            time = timely-take (S .task .graph) (S .laws) (E .budget) (h .on) (h .time) (h .sits .end ∙ e) k o p;
             ended = ended-take (m .last) s e (h .ended) (targetNumber (copies S) o);
           })
 
@@ -107,7 +107,7 @@ module _ (S : Setting) (m : Bounded) (Y : LaysOut S m) (E : Entry S) where
       record {
         on = setOut S m Y E;
         sits = sits;
-        time = timely-start (S .graph) (S .laws) (E .budget) (E .low) (E .fits);
+        time = timely-start (S .task .graph) (S .laws) (E .budget) (E .low) (E .fits);
         ended =
             ap isExit (same-end S m Y (startCopy S E) (entryPlace S E) (start-in S E) (sits .place))
             ∙ entered-shape (m .last) (entryPlace S E);

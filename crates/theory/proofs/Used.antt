@@ -18,9 +18,9 @@ use Rattle.theory.proofs.Reach.{target-i, sound, in-reached, copy-sound
 
 module _ (S : Setting) where
   abbrev g : Graph
-  g = S .graph
+  g = S .task .graph
 
-  abbrev L : WellFormed (S .graph)
+  abbrev L : WellFormed (S .task .graph)
   L = S .laws
 
   -- v is the block of a copy
@@ -29,7 +29,7 @@ module _ (S : Setting) where
 
   -- a path from a reached copy that costs at most its low is the rest of a kept path
   rest-kept : {j n : ℕ} {c : Copy} {ks bs : List ℕ} → Reached g (starts S) j c → Path g (c .block) ks bs n → n ≤ c .low
-      → (v : ℕ) → List·Memᴰ v bs → Kept g (S .largest) v
+      → (v : ℕ) → List·Memᴰ v bs → Kept g (S .task .largest) v
   rest-kept {n = n} {ks = ks} {bs = bs} (start {c = c} m) p l v i =
       let first : c .block ≡ 1 = sym (ap (λ (d : Copy). d .block) (entry-of S c m .1)) in
       record {
@@ -60,10 +60,10 @@ module _ (S : Setting) where
           let n = targets-in S (copyOf u a) (copyOf t d) m (target-i g u a t d (chosen-mem (g .next u) k t q) p) in
           below d n (w .most c (path-completion r) (omega arith)) v x
 
-  kept-used : (v : ℕ) → Kept g (S .largest) v → Used v
+  kept-used : (v : ℕ) → Kept g (S .task .largest) v → Used v
   kept-used v K =
-      let E : Entry S = record { budget = S .largest; named = S .named; low = S .start; fits = S .opens } in
-      let w = low-some g L 1 (S .largest) (S .start) (S .opens) in
+      let E : Entry S = record { budget = S .task .largest; named = S .named; low = S .start; fits = S .opens } in
+      let w = low-some g L 1 (S .task .largest) (S .start) (S .opens) in
       path-used (K .path) (S .start) (start-in S E) (w .most (K .cost) (path-completion (K .path)) (K .within)) v (K .enters)
 
   -- a path's first block is among its blocks
@@ -71,12 +71,12 @@ module _ (S : Setting) where
   first-block here v e = List·Memᴰ·head e
   first-block (hop q r p) v e = List·Memᴰ·head e
 
-  used-kept : (v : ℕ) → Used v → Kept g (S .largest) v
+  used-kept : (v : ℕ) → Used v → Kept g (S .task .largest) v
   used-kept v (c, m, e) =
       let r = in-reached S c m in
       let p = completion-path (copy-sound S c m .1 .cost) in
       rest-kept (r .1) (p .2) (omega arith) v (first-block (p .2) v (sym e))
 
   -- every reached copy lies on a kept path, and every block of a kept path has a copy
-  pub used : (v : ℕ) → ((c : Copy) × List·Memᴰ c (copies S) × (c .block ≡ v)) ↔ Kept (S .graph) (S .largest) v
+  pub used : (v : ℕ) → ((c : Copy) × List·Memᴰ c (copies S) × (c .block ≡ v)) ↔ Kept (S .task .graph) (S .task .largest) v
   used v = (used-kept v, kept-used v)

@@ -3,6 +3,8 @@
 pub mod Completions
 -- the copies that are reached from some start copies
 pub mod Copies
+-- what is built: a graph with budgets, and its copies
+pub mod Tasks
 -- machines that move by choices, and runs
 pub mod Machines
 -- the monitor, the walk over copies, the walk on a bounded graph, paths

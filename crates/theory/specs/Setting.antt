@@ -9,7 +9,8 @@ use lib.ListN.{length}
 use Rattle.base.specs.Lists.{chosen}
 use Rattle.base.specs.Copy.{Copy, copyOf, numberFrom}
 use Rattle.theory.specs.Completions.{Graph, Completion, lowOf}
-use Rattle.theory.specs.Copies.{targets, targetNumber, startCopies, copiesFrom}
+use Rattle.theory.specs.Copies.{targets, targetNumber, startCopies}
+use Rattle.theory.specs.Tasks.{Task, copiesIn}
 use Rattle.theory.specs.Machines.{going, diverted, reply, answers, final, zeros, Unchanged}
 use Rattle.theory.specs.Walks.{Walk, endAt, mostMoves, monitor, Bounded, boundedWalk, Path}
 
@@ -47,33 +48,30 @@ pub record Kept (g : Graph) (b v : ℕ) : Type 0 where
   pub within : cost ≤ b
   pub enters : List·Memᴰ v blocks
 
--- A SETTING: a well-formed graph of some blocks, with budgets, the largest of which leaves block 1 a completion
+-- A SETTING: a task with a well-formed graph, the largest of whose budgets leaves block 1 a completion
 pub record Setting : Type 0 where
-  pub graph : Graph
-  pub laws : WellFormed graph
-  pub blocks : ℕ
-  pub inside : (v t : ℕ) → List·Memᴰ t (graph .next v) → t ≤ blocks
-  pub budgets : List ℕ
-  pub largest : ℕ
-  pub named : List·Memᴰ largest budgets
-  pub most : (b : ℕ) → List·Memᴰ b budgets → b ≤ largest
+  pub task : Task
+  pub laws : WellFormed (task .graph)
+  pub inside : (v t : ℕ) → List·Memᴰ t (task .graph .next v) → t ≤ task .blocks
+  pub named : List·Memᴰ (task .largest) (task .budgets)
+  pub most : (b : ℕ) → List·Memᴰ b (task .budgets) → b ≤ task .largest
   pub start : ℕ
-  pub opens : lowOf graph 1 largest ≡ some start
+  pub opens : lowOf (task .graph) 1 (task .largest) ≡ some start
 
 -- an entry: a budget that leaves block 1 a completion, and the low of its start copy
 pub record Entry (S : Setting) : Type 0 where
   pub budget : ℕ
-  pub named : List·Memᴰ budget (S .budgets)
+  pub named : List·Memᴰ budget (S .task .budgets)
   pub low : ℕ
-  pub fits : lowOf (S .graph) 1 budget ≡ some low
+  pub fits : lowOf (S .task .graph) 1 budget ≡ some low
 
 module _ (S : Setting) where
   abbrev pub starts : List Copy
-  starts = startCopies (S .graph) (S .budgets)
+  starts = startCopies (S .task .graph) (S .task .budgets)
 
   -- the copies of the setting
   abbrev pub copies : List Copy
-  copies = copiesFrom (S .graph) (S .blocks) (S .largest) starts
+  copies = copiesIn (S .task)
 
   abbrev pub exitCopy : Copy
   exitCopy = copyOf 2 0
@@ -89,29 +87,29 @@ module _ (S : Setting) where
   pub record LaysOut (m : Bounded) : Type 0 where
     pub size : m .size ≡ length copies
     pub block : (i : ℕ) (c : Copy) → chosen copies i ≡ some c → m .block i ≡ c .block
-    pub next : (i : ℕ) (c : Copy) → chosen copies i ≡ some c → m .next i ≡ map (targetNumber copies) (targets (S .graph) c)
+    pub next : (i : ℕ) (c : Copy) → chosen copies i ≡ some c → m .next i ≡ map (targetNumber copies) (targets (S .task .graph) c)
     pub last : chosen copies (m .last) ≡ some exitCopy
 
   -- THE PROMISE about a list of choices: a monitor at the budget b that sets out from s, and a walk on a bounded graph that sets out from t
   module _ (m : Bounded) (b : ℕ) (s t : Walk) (ks : List ℕ) where
     abbrev monitorEnd : Walk
-    monitorEnd = final (reply (monitor (S .graph) b)) s ks
+    monitorEnd = final (reply (monitor (S .task .graph) b)) s ks
 
     abbrev boundedEnd : Walk
     boundedEnd = final (reply (boundedWalk m)) t ks
 
     pub record Agrees : Type 0 where
-      pub answer : answers (reply (boundedWalk m)) t ks ≡ answers (reply (monitor (S .graph) b)) s ks
+      pub answer : answers (reply (boundedWalk m)) t ks ≡ answers (reply (monitor (S .task .graph) b)) s ks
       pub block : m .block (boundedEnd .place) ≡ monitorEnd .place
       pub end : boundedEnd .end ≡ monitorEnd .end
       pub count : monitorEnd .count ≤ b
       pub moves : boundedEnd .count ≡ zeros (answers (reply (boundedWalk m)) t ks)
       pub most : boundedEnd .count ≤ mostMoves b (boundedEnd .end)
-      pub monitor-onward : monitorEnd .end ≡ going → reply (monitor (S .graph) b) monitorEnd 1 .answer ≡ 0
+      pub monitor-onward : monitorEnd .end ≡ going → reply (monitor (S .task .graph) b) monitorEnd 1 .answer ≡ 0
       pub bounded-onward : boundedEnd .end ≡ going → reply (boundedWalk m) boundedEnd 1 .answer ≡ 0
 
   -- THE PROMISE about paths: a path runs unchanged exactly where it costs at most the budget
   unfoldable pub PathsKept : Bounded → ℕ → Walk → Type 0
   PathsKept m b t =
-      (ks bs : List ℕ) (c : ℕ) → Path (S .graph) 1 ks bs c
+      (ks bs : List ℕ) (c : ℕ) → Path (S .task .graph) 1 ks bs c
       → (c ≤ b) ↔ Unchanged (reply (boundedWalk m)) (λ s. m .block (s .place)) (λ s. s .end) t ks bs

@@ -16,9 +16,9 @@ use Rattle.theory.specs.Completions.{lowOf}
 use Rattle.formats.specs.Limits.{mostBudget}
 use Rattle.formats.specs.GraphSheet.{header, sheetOrder, sheetRefusal}
 use Rattle.formats.proofs.Accepted.{accepted, blocks, budget-fits}
-use Rattle.calls.specs.SheetGraph.{graph}
+use Rattle.calls.specs.SheetGraph.{task, graph}
 use Rattle.calls.specs.Area.{areaSize, filled, Table}
-use Rattle.calls.specs.Weigh.{Weighing, sheetArea, smallArea, nothingFits, weighOrder, beforeWeighing, areaAfter, weighed}
+use Rattle.calls.specs.Weigh.{Weighing, taskArea, smallArea, nothingFits, weighOrder, beforeWeighing, areaAfter, weighed}
 use Rattle.calls.proofs.Weigh.{spared, sheet-early, late-area}
 use Rattle.calls.proofs.Area.{filled-table}
 use Rattle.tables.specs.Tables.{optionOf}
@@ -33,11 +33,11 @@ module _ (w area : List ℕ) where
   abbrev pub Answers : ℕ → List ℕ → Type 0
   Answers r after = (r ≡ weighed i .answer) × (after ≡ weighed i .area)
 
-  answers : (r : ℕ) {after : List ℕ} → refused weighOrder i ≡ r → after ≡ areaAfter w r area → Answers r after
+  answers : (r : ℕ) {after : List ℕ} → refused weighOrder i ≡ r → after ≡ areaAfter (task w) r area → Answers r after
   unfolding weighed
-  answers r e q = (sym e, q ∙ ap (λ (x : ℕ). areaAfter w x area) (sym e))
+  answers r e q = (sym e, q ∙ ap (λ (x : ℕ). areaAfter (task w) x area) (sym e))
 
-  stays : (r : ℕ) → beforeWeighing r ≡ true → area ≡ areaAfter w r area
+  stays : (r : ℕ) → beforeWeighing r ≡ true → area ≡ areaAfter (task w) r area
   unfolding areaAfter
   stays r e = rw (e, areaAfter)
 
@@ -49,11 +49,11 @@ module _ (w area : List ℕ) where
       (stays r (ap beforeWeighing q ∙ sheet-early w (λ z. n (q ∙ z))))
 
   module _ (ok : sheetRefusal w ≡ 0) where
-    answer : {s f : Bool} → smallArea i ≡ s → nothingFits w ≡ f → refused weighOrder i ≡ pick s 21 (pick f 9 0)
+    answer : {s f : Bool} → smallArea i ≡ s → nothingFits (task w) ≡ f → refused weighOrder i ≡ pick s 21 (pick f 9 0)
     unfolding weighOrder sheetRefusal sheetOrder over all
     answer p q =
         append-passes (over (λ i. i .sheet) sheetOrder) _ i refl (over-is (λ i. i .sheet) sheetOrder i ∙ ok)
-        ∙ tested 21 smallArea _ i p (tested 9 (λ i. nothingFits (i .sheet)) [] i q (none-left i))
+        ∙ tested 21 smallArea _ i p (tested 9 (λ i. nothingFits (task (i .sheet))) [] i q (none-left i))
 
     -- the code's product is the length that the sheet asks for
     module _ {n b : ℕ} (p : n ≡ header w .blocks) (q : b ≡ header w .budget) where
@@ -61,8 +61,8 @@ module _ (w area : List ℕ) where
       unfolding areaSize
       size = rw add-one (ap (λ (n : ℕ). n * suc b) p)
 
-      asked : n * (b + 1) ≡ sheetArea w
-      unfolding sheetArea
+      asked : n * (b + 1) ≡ taskArea (task w)
+      unfolding taskArea
       asked = size ∙ ap (areaSize (header w .blocks)) q
 
       budget-small : b ≤ mostBudget
@@ -77,7 +77,7 @@ module _ (w area : List ℕ) where
       pub area-refused : length area < n * (b + 1) → Answers 21 area
       unfolding smallArea any member from
       area-refused l =
-          answers 21 (answer (lt-ltb (length area) (sheetArea w) (omega (arith, asked))) refl) (stays 21 (spared 21))
+          answers 21 (answer (lt-ltb (length area) (taskArea (task w)) (omega (arith, asked))) refl) (stays 21 (spared 21))
 
       -- room enough: the area is filled, and the look-up of block 1 at the budget decides
       module _ (room : n * (b + 1) ≤ length area) where
@@ -91,11 +91,11 @@ module _ (w area : List ℕ) where
             (budget-small, omega arith, omega (arith, blocks w (accepted w ok)), omega arith),
           )
 
-          passes : {t : Bool} → nothingFits w ≡ t → refused weighOrder i ≡ pick t 9 0
+          passes : {t : Bool} → nothingFits (task w) ≡ t → refused weighOrder i ≡ pick t 9 0
           unfolding smallArea
-          passes t = answer (le-ltb (length area) (sheetArea w) (omega (arith, asked))) t
+          passes t = answer (le-ltb (length area) (taskArea (task w)) (omega (arith, asked))) t
 
-          changes : (r : ℕ) → beforeWeighing r ≡ false → after ≡ areaAfter w r area
+          changes : (r : ℕ) → beforeWeighing r ≡ false → after ≡ areaAfter (task w) r area
           changes r t = f ∙ ap (λ (b : ℕ). filled (graph w) (header w .blocks) b area) q ∙ late-area w area r t
 
           pub nothing-fits : {x : ℕ} → optionOf x ≡ lowOf (graph w) 1 b → x ≡ 0 → Answers 9 after

@@ -1,0 +1,20 @@
+-- A TASK, what is built: a graph with its number of blocks, some budgets and the largest of them; and its copies.
+-- Rests on base Copy, Completions, Copies.
+use mathlib.Core.List.{List, [], _∷_}
+use Prim.Native.Nat.{ℕ}
+use Rattle.base.specs.Copy.{Copy}
+use Rattle.theory.specs.Completions.{Graph}
+use Rattle.theory.specs.Copies.{startCopies, copiesFrom}
+
+pub record Task : Type 0 where
+  pub graph : Graph
+  pub blocks : ℕ
+  pub budgets : List ℕ
+  pub largest : ℕ
+
+-- a task with one budget
+abbrev pub taskAt : Graph → ℕ → ℕ → Task
+taskAt g n b = record { graph = g; blocks = n; budgets = b ∷ []; largest = b }
+
+abbrev pub copiesIn : Task → List Copy
+copiesIn T = copiesFrom (T .graph) (T .blocks) (T .largest) (startCopies (T .graph) (T .budgets))
