@@ -3,7 +3,7 @@
 use mathlib.Core.Path.{_≡_, refl, sym, ap, subst, _∙_}
 use mathlib.Core.Bool.{Bool, true, false, not}
 use mathlib.Core.List.{List, [], map, List·Memᴰ, List·Memᴰ·not-nil, Memᴰ·of-map}
-use Prim.Native.Nat.{ℕ, suc, _+_, _≤_}
+use Prim.Native.Nat.{ℕ, suc, _+_, _-_, _*_, _≤_}
 use native.Mathlib.Omega.{arith}
 use borrow.Author.Tests.{ltb-true, ltb-false, eqb-true, not-false, lt-ltb, le-ltb}
 use lib.Dec.{ltb}
@@ -14,12 +14,17 @@ use Rattle.base.proofs.Truth.{or-false, all-e, any-false}
 use Rattle.base.proofs.Lists.{from-i, each-i, Distinct, distinct-part}
 use Rattle.base.proofs.Orders.{Numbered, unrefused, inside-of, not-outside}
 use Rattle.base.proofs.Pigeonhole.{distinct-e, pigeonhole}
-use Rattle.formats.specs.Words.{follow, unsound}
+use Rattle.formats.specs.Words.{word, follow, unsound}
 use Rattle.formats.specs.Limits.{leastBlocks, mostBlocks, leastEdges, mostEdges, mostBudget}
 use Rattle.formats.specs.GraphSheet.{Header, header, sheetLength, costWord, firstWord, targetWord, nextWord, chain, met, successors}
 use Rattle.formats.specs.GraphSheet.{short, badCounts, badLength, badBudget, costFits, badCosts, badTargets, badChains, exitChain}
 use Rattle.formats.specs.GraphSheet.{sheetOrder, sheetRefusal, successorCount}
 use Rattle.formats.proofs.Chains.{follow-above, chain-length-is, follow-ends}
+
+-- a block's cost stands in its record
+pub cost-word : (h : Header) (w : List ℕ) (v : ℕ) → 1 ≤ v → v ≤ h .blocks → costWord h w v ≡ word w (h .records + 2 * (v - 1))
+unfolding costWord
+cost-word h w v p q = rw (not-outside 1 (h .blocks) v p q, costWord)
 
 -- no condition holds
 pub record Accepted (w : List ℕ) : Type 0 where

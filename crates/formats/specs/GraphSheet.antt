@@ -28,8 +28,9 @@ sheetLength h = h .records + 2 * h .blocks + 2 * h .edges
 
 -- the words of the records; "Blocks and edges are numbered from 1"
 module _ (h : Header) (w : List ℕ) where
+  -- a number that is no block's costs nothing
   unfoldable pub costWord : ℕ → ℕ
-  costWord v = word w (h .records + 2 * (v - 1))
+  costWord v = elim (outside 1 (h .blocks) v) [ true ↦ 0 | false ↦ word w (h .records + 2 * (v - 1)) ]
 
   unfoldable pub firstWord : ℕ → ℕ
   firstWord v = word w (h .records + 2 * (v - 1) + 1)

@@ -1,0 +1,4 @@
+-- Laws about a graph in a row.
+-- Rests on specs GraphRow.
+-- what the words of a row are in its graph: cost-is, next-is, next-length, target-is
+pub mod Laws
