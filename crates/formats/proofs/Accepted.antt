@@ -11,7 +11,7 @@ use lib.ListN.{length, length-map}
 use Rattle.base.specs.Lists.{any, all, from, distinct}
 use Rattle.base.specs.Checks.{outside}
 use Rattle.base.proofs.Truth.{or-false, all-e, any-false}
-use Rattle.base.proofs.Lists.{from-i, each-i, Distinct, distinct-part}
+use Rattle.base.proofs.Lists.{from-i, each-i, each-e, Distinct, distinct-part}
 use Rattle.base.proofs.Orders.{Numbered, unrefused, inside-of, not-outside}
 use Rattle.base.proofs.Pigeonhole.{distinct-e, pigeonhole}
 use Rattle.formats.specs.Words.{word, follow, unsound}
@@ -126,6 +126,18 @@ module _ (w : List ℕ) (A : Accepted w) where
       let d : Distinct (met h w) = distinct-e (met h w) t in
       pigeonhole (h .edges) (chain h w v) (distinct-part (chain h w) (from 1 (h .blocks)) d (from-i (h .blocks) 1 v p (omega arith)))
       (λ e m. edge-inside v e p q m)
+
+  -- all chains together have at most E edges
+  pub met-short : length (met h w) ≤ h .edges
+  unfolding badChains unsound met chain
+  met-short =
+      let r = or-false (any (λ e. ltb (h .edges) e) (met h w)) _ (A .chains) in
+      let t : distinct (met h w) ≡ true = not-false _ (or-false (not (distinct (met h w))) _ (r .1) .0) in
+      pigeonhole (h .edges) (met h w) (distinct-e (met h w) t) (λ e m.
+      let o = each-e (chain h w) (from 1 (h .blocks)) m in (
+        follow-above (nextWord h w) (suc (h .edges)) (firstWord h w (o .0)) e (o .2),
+        ltb-false (h .edges) e (any-false (λ e. ltb (h .edges) e) (met h w) (r .0) m),
+      ))
 
   pub chain-ends : (v j : ℕ) → 1 ≤ v → v ≤ h .blocks → follow (nextWord h w) (suc (h .edges) + j) (firstWord h w v) ≡ chain h w v
   unfolding chain
