@@ -1,8 +1,18 @@
--- the cells of an area that is ready: cell, target-block, ready-on
+-- a flat row's graph, and its successors by place: joined, ready, next-left
+pub mod Flat
+-- the cells of an area that is ready: cell, ready-on
 pub mod Cells
--- one turn of the loop over a block's successors: begin, ends, out, edge, target, hit, on
-pub mod Next
--- which cells decide a cell, and what one write makes right: by-done, by-line, next-block, cost-done
-pub mod States
 -- all cells right is the filled area: is-filled
 pub mod Filled
+-- a row of sources is short: counted, row-fits, row-last
+pub mod Rows
+-- a source listed: push-none, push-new
+pub mod OneSource
+-- a block's successors, all sources: Listed, rows-of
+pub mod Sources
+-- a cell set, cells cleared, the exit's alone: set-fair, cleared-more, begun-fair
+pub mod Written
+-- one cost of one block passed on: wrote, Spreading
+pub mod OneCost
+-- all costs passed on: next-block, next-cost, all-right
+pub mod Forward

@@ -1,3 +1,5 @@
--- The states of the work area while it is filled.
+-- A graph whose edges join its blocks, the rows of the blocks that a block succeeds, and the states of the work area while it is filled.
 -- Rests on theory, formats and calls.
+pub mod Joined
+pub mod Rows
 pub mod States

@@ -1,93 +1,267 @@
-// The completion table of an accepted graph sheet, in the work area. Below the public calls.
-// Rests on graph_words and cells; the promise is calls Area, "a work area that was filled".
+// The completion table of a graph in one row, in the work area. Below the public calls.
+// Rests on graph_row and cells; the promise is calls Area, "a work area that was filled".
+// By rising costs, each cell that is set passes its cost on to the blocks before its block: these are listed first.
 ghost use mathlib.Core.Path.{_≡_};
-ghost use Prim.Native.Nat.{_+_, _≤_};
-ghost use lib.ListN.{length};
-ghost use Rattle.base.specs.Lists.{any};
+ghost use mathlib.Core.Bool.{true};
+ghost use mathlib.Core.List.{List·Memᴰ};
+ghost use Prim.Native.Nat.{suc, _+_, _≤_, _<_};
+ghost use lib.ListN.{length, getD};
 ghost use Rattle.theory.specs.Completions.{completes};
 ghost use Rattle.formats.specs.Limits.{mostBudget};
-ghost use Rattle.formats.specs.GraphSheet.{header, sheetRefusal};
-ghost use Rattle.calls.specs.SheetGraph.{graph};
 ghost use Rattle.calls.specs.Area.{areaSize, filled};
-ghost use Rattle.weigh.specs.States.{Ready, Ahead, Decided, Done, Kept};
+ghost use Rattle.graph_row.specs.GraphRow.{blocksIn, graphIn, Flat};
+ghost use Rattle.weigh.specs.Rows.{Listing, Pushed, Newest, Sources, Rows};
+ghost use Rattle.weigh.specs.States.{Ready, Kept, Cleared, Fair, Wider, Reached, Spread, Passed};
 use cells::is_set;
+use cells::place;
 use cells::put;
-use graph_words::blocks;
-use graph_words::cost_of;
-use graph_words::edges;
-use graph_words::first_of;
-use graph_words::next_of;
-use graph_words::target_of;
+use graph_row::blocks_in;
+use graph_row::cost_in;
+use graph_row::degree_in;
+use graph_row::start_in;
+use graph_words::MOST_BLOCKS;
+use graph_words::word_at;
 
-// Some successor of v has the cost d, by the successors' cells.
-fn some_next(s: &[u16], area: &[u8], b: usize, v: usize, d: usize) -> bool
-    requires { ⌜ Ready (now s) b (now area) ⌝ }
-    requires { ⌜ (1 ≤ v) × (v ≤ header (now s) .blocks) × (d ≤ b) ⌝ }
-    requires { ⌜ Ahead (now s) b (now area) v d ⌝ }
-    ensures { λ r. ⌜ r ≡ any (λ t. completes (graph (now (s .entry))) t d) (graph (now (s .entry)) .next v) ⌝ }
+// One byte, as a number.
+fn byte_at(bytes: &[u8], i: usize) -> usize
+    requires { ⌜ i < length (now bytes) ⌝ }
+    ensures { λ x. ⌜ (x ≡ getD (now (bytes .entry)) i 0) × (x < 256) ⌝ }
 {
-    let m = edges(s);
-    let mut e = first_of(s, v);
-    let mut k = m + 1;
-    while 0 < k {
-        if e == 0 {
-            return false;
-        }
-        let t = target_of(s, e);
-        if is_set(area, b, t, d) {
-            return true;
-        }
-        e = next_of(s, e);
-        k -= 1;
-    }
-    false
+    bytes[i] as usize
 }
 
-// Whether block v has a completion costing c.
-fn completes_at(s: &[u16], area: &[u8], b: usize, v: usize, c: usize) -> bool
-    requires { ⌜ Ready (now s) b (now area) ⌝ }
-    requires { ⌜ (1 ≤ v) × (v ≤ header (now s) .blocks) × (c ≤ b) ⌝ }
-    requires { ⌜ Decided (now s) b (now area) v c ⌝ }
-    ensures { λ r. ⌜ r ≡ completes (graph (now (s .entry))) v c ⌝ }
+// Whether u stands last in t's row.
+fn is_newest(row: &[u16], rows: &[u8], counts: &[u8], r: usize, t: usize, u: usize) -> bool
+    requires { ⌜ Listing (graphIn (now row)) (blocksIn (now row)) r (u + 1) (now rows) (now counts) ⌝ }
+    requires { ⌜ (1 ≤ t) × (t ≤ blocksIn (now row)) × (1 ≤ u) ⌝ }
+    ensures { λ x. ⌜ Newest (now (rows .entry)) (now (counts .entry)) r t u x ⌝ }
 {
-    if v == 2 {
-        return c == 0;
-    }
-    let k = cost_of(s, v);
-    if c < k {
+    let k = byte_at(counts, t);
+    if k == 0 {
         return false;
     }
-    some_next(s, area, b, v, c - k)
+    let i = place(r, t, k - 1);
+    byte_at(rows, i) == u
 }
 
-// The cells of all blocks at the cost c; block 1 last, which costs nothing and is no block's successor.
-fn weigh_cost(s: &[u16], area: &mut [u8], b: usize, c: usize)
-    requires { ⌜ Ready (now s) b (now area) ⌝ }
-    requires { ⌜ c ≤ b ⌝ }
-    requires { ⌜ Done (now s) b (now area) c ⌝ }
-    ensures { λ _. ⌜ Kept (now (s .entry)) b (now (area .entry)) (now (area .exit)) ⌝ }
-    ensures { λ _. ⌜ Done (now (s .entry)) b (now (area .exit)) (c + 1) ⌝ }
+// Lists u in the row of its successor t, once.
+fn push(row: &[u16], rows: &mut [u8], counts: &mut [u8], r: usize, t: usize, u: usize)
+    requires { ⌜ Listing (graphIn (now row)) (blocksIn (now row)) r (u + 1) (now rows) (now counts) ⌝ }
+    requires { ⌜ (1 ≤ t) × (t ≤ blocksIn (now row)) × (1 ≤ u) ⌝ }
+    requires { ⌜ List·Memᴰ t (graphIn (now row) .next u) ⌝ }
+    ensures { λ _. ⌜ Pushed (graphIn (now (row .entry))) (blocksIn (now (row .entry))) r t u (now (rows .entry)) (now (counts .entry)) (now (rows .exit)) (now (counts .exit)) ⌝ }
 {
-    let n = blocks(s);
+    if is_newest(row, rows, counts, r, t, u) {
+        return;
+    }
+    let k = byte_at(counts, t);
+    let i = place(r, t, k);
+    rows[i] = u as u8;
+    counts[t] = (k + 1) as u8;
+}
+
+// Lists u in the rows of all its successors.
+fn list_source(row: &[u16], rows: &mut [u8], counts: &mut [u8], r: usize, u: usize)
+    requires { ⌜ Flat (now row) ⌝ }
+    requires { ⌜ (1 ≤ u) × (u ≤ blocksIn (now row)) ⌝ }
+    requires { ⌜ Sources (graphIn (now row)) (blocksIn (now row)) r u (now rows) (now counts) ⌝ }
+    ensures { λ _. ⌜ Sources (graphIn (now (row .entry))) (blocksIn (now (row .entry))) r (u + 1) (now (rows .exit)) (now (counts .exit)) ⌝ }
+{
+    let a = start_in(row, u);
+    let d = degree_in(row, u);
+    let mut i = 0;
+    while i < d {
+        let t = word_at(row, a + i);
+        push(row, rows, counts, r, t, u);
+        i += 1;
+    }
+}
+
+// The row of each block: the blocks that it succeeds.
+fn list_rows(row: &[u16], rows: &mut [u8], counts: &mut [u8], r: usize)
+    requires { ⌜ Flat (now row) ⌝ }
+    requires { ⌜ Sources (graphIn (now row)) (blocksIn (now row)) r 1 (now rows) (now counts) ⌝ }
+    ensures { λ _. ⌜ Rows (graphIn (now (row .entry))) (blocksIn (now (row .entry))) r (now (rows .exit)) (now (counts .exit)) ⌝ }
+{
+    let n = blocks_in(row);
+    let mut u = 1;
+    while u <= n {
+        list_source(row, rows, counts, r, u);
+        u += 1;
+    }
+}
+
+// Clears the cells.
+fn clear(area: &mut [u8], m: usize)
+    requires { ⌜ m ≤ length (now area) ⌝ }
+    ensures { λ _. ⌜ Cleared m (now (area .entry)) (now (area .exit)) ⌝ }
+{
+    let mut i = 0;
+    while i < m {
+        area[i] = 0;
+        i += 1;
+    }
+}
+
+// Only the exit's cost 0 is set.
+fn begin(row: &[u16], area: &mut [u8], b: usize)
+    requires { ⌜ Flat (now row) ⌝ }
+    requires { ⌜ Ready (graphIn (now row)) (blocksIn (now row)) b (now area) ⌝ }
+    ensures { λ _. ⌜ Kept (blocksIn (now (row .entry))) b (now (area .entry)) (now (area .exit)) ⌝ }
+    ensures { λ _. ⌜ Fair (graphIn (now (row .entry))) (blocksIn (now (row .entry))) b (now (area .exit)) ⌝ }
+{
+    let n = blocks_in(row);
+    clear(area, n * (b + 1));
+    put(area, b, 2, 0, true);
+}
+
+// Sets u's cell at c more than its cost, where the budget has that.
+fn reach(row: &[u16], area: &mut [u8], b: usize, u: usize, c: usize)
+    requires { ⌜ Flat (now row) ⌝ }
+    requires { ⌜ Fair (graphIn (now row)) (blocksIn (now row)) b (now area) ⌝ }
+    requires { ⌜ (1 ≤ u) × (u ≤ blocksIn (now row)) × (c ≤ b) ⌝ }
+    requires { ⌜ completes (graphIn (now row)) u (graphIn (now row) .cost u + c) ≡ true ⌝ }
+    ensures { λ _. ⌜ Wider (graphIn (now (row .entry))) (blocksIn (now (row .entry))) b (now (area .entry)) (now (area .exit)) ⌝ }
+    ensures { λ _. ⌜ Reached (graphIn (now (row .entry))) b (now (area .exit)) u c ⌝ }
+{
+    let d = cost_in(row, u) + c;
+    if b < d {
+        return;
+    }
+    put(area, b, u, d, true);
+}
+
+// v's cost c, passed on to every block of its row.
+fn spread(
+    row: &[u16],
+    rows: &[u8],
+    counts: &[u8],
+    r: usize,
+    area: &mut [u8],
+    b: usize,
+    v: usize,
+    c: usize,
+)
+    requires { ⌜ Flat (now row) ⌝ }
+    requires { ⌜ Rows (graphIn (now row)) (blocksIn (now row)) r (now rows) (now counts) ⌝ }
+    requires { ⌜ Fair (graphIn (now row)) (blocksIn (now row)) b (now area) ⌝ }
+    requires { ⌜ (2 ≤ v) × (v ≤ blocksIn (now row)) × (c ≤ b) ⌝ }
+    requires { ⌜ completes (graphIn (now row)) v c ≡ true ⌝ }
+    ensures { λ _. ⌜ Wider (graphIn (now (row .entry))) (blocksIn (now (row .entry))) b (now (area .entry)) (now (area .exit)) ⌝ }
+    ensures { λ _. ⌜ Spread (graphIn (now (row .entry))) b (now (area .exit)) v c ⌝ }
+{
+    let k = byte_at(counts, v);
+    let mut i = 0;
+    while i < k {
+        let j = place(r, v, i);
+        let u = byte_at(rows, j);
+        reach(row, area, b, u, c);
+        i += 1;
+    }
+}
+
+// The same where v has that cost.
+fn pass(
+    row: &[u16],
+    rows: &[u8],
+    counts: &[u8],
+    r: usize,
+    area: &mut [u8],
+    b: usize,
+    v: usize,
+    c: usize,
+)
+    requires { ⌜ Flat (now row) ⌝ }
+    requires { ⌜ Rows (graphIn (now row)) (blocksIn (now row)) r (now rows) (now counts) ⌝ }
+    requires { ⌜ Fair (graphIn (now row)) (blocksIn (now row)) b (now area) ⌝ }
+    requires { ⌜ (2 ≤ v) × (v ≤ blocksIn (now row)) × (c ≤ b) ⌝ }
+    requires { ⌜ Passed (graphIn (now row)) b (now area) c v ⌝ }
+    ensures { λ _. ⌜ Wider (graphIn (now (row .entry))) (blocksIn (now (row .entry))) b (now (area .entry)) (now (area .exit)) ⌝ }
+    ensures { λ _. ⌜ Passed (graphIn (now (row .entry))) b (now (area .exit)) c (v + 1) ⌝ }
+{
+    if is_set(area, b, v, c) {
+        spread(row, rows, counts, r, area, b, v, c);
+        return;
+    }
+}
+
+// All blocks' cost c; block 1 is no block's successor.
+fn weigh_cost(row: &[u16], rows: &[u8], counts: &[u8], r: usize, area: &mut [u8], b: usize, c: usize)
+    requires { ⌜ Flat (now row) ⌝ }
+    requires { ⌜ Rows (graphIn (now row)) (blocksIn (now row)) r (now rows) (now counts) ⌝ }
+    requires { ⌜ Fair (graphIn (now row)) (blocksIn (now row)) b (now area) ⌝ }
+    requires { ⌜ c ≤ b ⌝ }
+    requires { ⌜ Passed (graphIn (now row)) b (now area) c 2 ⌝ }
+    ensures { λ _. ⌜ Wider (graphIn (now (row .entry))) (blocksIn (now (row .entry))) b (now (area .entry)) (now (area .exit)) ⌝ }
+    ensures { λ _. ⌜ Passed (graphIn (now (row .entry))) b (now (area .exit)) (c + 1) 2 ⌝ }
+{
+    let n = blocks_in(row);
     let mut v = 2;
     while v <= n {
-        let m = completes_at(s, area, b, v, c);
-        put(area, b, v, c, m);
+        pass(row, rows, counts, r, area, b, v, c);
         v += 1;
     }
-    let m = completes_at(s, area, b, 1, c);
-    put(area, b, 1, c, m);
 }
 
-// Fills the area for the budget b, by rising costs; what lies behind the cells stays.
-pub fn weigh(s: &[u16], area: &mut [u8], b: usize)
-    requires { ⌜ sheetRefusal (now s) ≡ 0 ⌝ }
-    requires { ⌜ (b ≤ mostBudget) × (areaSize (header (now s) .blocks) b ≤ length (now area)) ⌝ }
-    ensures { λ _. ⌜ now (area .exit) ≡ filled (graph (now (s .entry))) (header (now (s .entry)) .blocks) b (now (area .entry)) ⌝ }
+// By rising costs.
+fn weigh_costs(row: &[u16], rows: &[u8], counts: &[u8], r: usize, area: &mut [u8], b: usize)
+    requires { ⌜ Flat (now row) ⌝ }
+    requires { ⌜ Rows (graphIn (now row)) (blocksIn (now row)) r (now rows) (now counts) ⌝ }
+    requires { ⌜ Fair (graphIn (now row)) (blocksIn (now row)) b (now area) ⌝ }
+    ensures { λ _. ⌜ Wider (graphIn (now (row .entry))) (blocksIn (now (row .entry))) b (now (area .entry)) (now (area .exit)) ⌝ }
+    ensures { λ _. ⌜ Passed (graphIn (now (row .entry))) b (now (area .exit)) (b + 1) 2 ⌝ }
 {
     let mut c = 0;
     while c <= b {
-        weigh_cost(s, area, b, c);
+        weigh_cost(row, rows, counts, r, area, b, c);
         c += 1;
     }
+}
+
+// With rows that are lent.
+fn weigh_with(row: &[u16], rows: &mut [u8], r: usize, area: &mut [u8], b: usize)
+    requires { ⌜ Flat (now row) ⌝ }
+    requires { ⌜ Ready (graphIn (now row)) (blocksIn (now row)) b (now area) ⌝ }
+    requires { ⌜ (blocksIn (now row) ≤ suc r) × (r ≤ mostBudget) × (areaSize (blocksIn (now row)) r ≤ length (now rows)) ⌝ }
+    ensures { λ _. ⌜ now (area .exit) ≡ filled (graphIn (now (row .entry))) (blocksIn (now (row .entry))) b (now (area .entry)) ⌝ }
+{
+    let mut counts = [0u8; MOST_BLOCKS + 1];
+    list_rows(row, rows, &mut counts, r);
+    begin(row, area, b);
+    weigh_costs(row, rows, &counts, r, area, b);
+}
+
+const SMALL: usize = 32;
+
+// Few blocks have short rows.
+fn weigh_small(row: &[u16], area: &mut [u8], b: usize)
+    requires { ⌜ Flat (now row) ⌝ }
+    requires { ⌜ Ready (graphIn (now row)) (blocksIn (now row)) b (now area) ⌝ }
+    requires { ⌜ blocksIn (now row) ≤ 32 ⌝ }
+    ensures { λ _. ⌜ now (area .exit) ≡ filled (graphIn (now (row .entry))) (blocksIn (now (row .entry))) b (now (area .entry)) ⌝ }
+{
+    let mut rows = [0u8; SMALL * SMALL];
+    weigh_with(row, &mut rows, SMALL - 1, area, b);
+}
+
+fn weigh_large(row: &[u16], area: &mut [u8], b: usize)
+    requires { ⌜ Flat (now row) ⌝ }
+    requires { ⌜ Ready (graphIn (now row)) (blocksIn (now row)) b (now area) ⌝ }
+    ensures { λ _. ⌜ now (area .exit) ≡ filled (graphIn (now (row .entry))) (blocksIn (now (row .entry))) b (now (area .entry)) ⌝ }
+{
+    let mut rows = [0u8; MOST_BLOCKS * MOST_BLOCKS];
+    weigh_with(row, &mut rows, MOST_BLOCKS - 1, area, b);
+}
+
+// Fills the area for the budget b: by rising costs each set cell passes its cost on to the blocks before its block. What lies behind the cells stays.
+pub fn weigh(row: &[u16], area: &mut [u8], b: usize)
+    requires { ⌜ Flat (now row) ⌝ }
+    requires { ⌜ (b ≤ mostBudget) × (areaSize (blocksIn (now row)) b ≤ length (now area)) ⌝ }
+    ensures { λ _. ⌜ now (area .exit) ≡ filled (graphIn (now (row .entry))) (blocksIn (now (row .entry))) b (now (area .entry)) ⌝ }
+{
+    if blocks_in(row) <= SMALL {
+        weigh_small(row, area, b);
+        return;
+    }
+    weigh_large(row, area, b);
 }

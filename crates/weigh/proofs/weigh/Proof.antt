@@ -1,46 +1,29 @@
--- The loop over the costs fills the area.
--- Rests on States, Filled.
-use Prim.Native.Nat.{_+_, _-_, _≤_}
+-- The rows are as long as the graph asks.
+-- Rests on Flat.
 use native.Mathlib.Omega.{arith}
 use borrow.Author.Needs.{needs}
-use Rattle.weigh.specs.States.{Done, Kept}
-use Rattle.weigh.proofs.Cells.{ready, ready-on}
-use Rattle.weigh.proofs.States.{none-done, all-kept, kept-then}
-use Rattle.weigh.proofs.Filled.{is-filled}
+use Rattle.weigh.proofs.Flat.{ready}
 use Rattle.weigh.proofs.weigh.Statement.{statement}
 use Rattle.weigh.proofs.weigh.Tie as tie
 
-abbrev Inv-loop : tie.InvT-loop
-Inv-loop s area₀ b c₀ area c = (c ≤ b + 1) × Kept s b area₀ area × Done s b area c
+blocks-in-requires : tie.Need-blocks-in-requires
+blocks-in-requires c κs = omega (arith, c .before .before .pre .0 .room)
 
-abbrev μ-loop : tie.MeasureT-loop
-μ-loop s area₀ b c₀ area c = b + 1 - c
+weigh-small-requires : tie.Need-weigh-small-requires
+weigh-small-requires c κs =
+    let z = c .before .before .before .before .before in
+    (z .pre .0, (ready (z .pre .0) (z .pre .1), omega (arith, c .before .before .blocks-in .ensures .0)))
 
-loop-holds : tie.Need-loop-holds Inv-loop μ-loop
-loop-holds c = (omega arith, all-kept _ _ _, none-done _ _ _)
+returns : tie.Need-returns
+returns c = c .before .before .weigh-small .ensures
 
-weigh-cost-requires : tie.Need-weigh-cost-requires Inv-loop μ-loop
-weigh-cost-requires c κs =
-    let l = c .before .before in
-    let z = l .before .before .before in
-    (ready-on (ready (z .pre .0) (z .pre .1)) (l .loop .inv .1), (omega arith, l .loop .inv .2))
+weigh-large-requires : tie.Need-weigh-large-requires
+weigh-large-requires c κs = let z = c .before .before .before .before .before in (z .pre .0, ready (z .pre .0) (z .pre .1))
 
-loop-again : tie.Need-loop-again Inv-loop μ-loop
-loop-again c =
-    let l = c .before .before .before .before .before in
-    let w = c .before .before .weigh-cost in
-    (omega arith, kept-then (l .loop .inv .1) (w .ensures .0), w .ensures .1)
-
-same-length : tie.Need-same-length Inv-loop μ-loop
-same-length c = c .before .loop .inv .1 .same
-
-returns : tie.Need-returns Inv-loop μ-loop
-returns c =
-    let l = c .before in
-    let z = l .before .before .before in
-    is-filled (ready (z .pre .0) (z .pre .1)) (l .loop .inv .1) (l .loop .c) (omega arith) (l .loop .inv .2)
+returns-2 : tie.Need-returns-2
+returns-2 c = c .before .before .weigh-large .ensures
 
 pub weigh-spec : {M : Type 1} → statement M
 weigh-spec =
     tie.close
-    (tie.spec Inv-loop μ-loop loop-holds weigh-cost-requires (λ c. search needs) (λ c. search needs) loop-again same-length returns)
+    (tie.spec blocks-in-requires weigh-small-requires (λ c. search needs) returns weigh-large-requires (λ c. search needs) returns-2)
