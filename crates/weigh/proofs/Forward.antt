@@ -1,7 +1,7 @@
 -- All costs passed on, cost by cost and block by block: then every cell of a completion is set.
 -- Rests on base Truth, theory Completions, OneCost, specs States.
 use mathlib.Core.Path.{_≡_, refl, sym, ap, subst, _∙_}
-use mathlib.Core.Logic.{_⊎_, inl, inr}
+use mathlib.Core.Logic.{inl, inr}
 use mathlib.Core.Bool.{Bool, true, false, not}
 use mathlib.Core.List.{List, List·Memᴰ}
 use Prim.Native.Nat.{ℕ, _+_, _≤_, _<_}

@@ -4,11 +4,11 @@ pub mod Flat
 pub mod Cells
 -- all cells right is the filled area: is-filled
 pub mod Filled
--- a row of sources is short: counted, row-fits, row-last
-pub mod Rows
+-- a list of sources is short: counted, list-fits, list-last
+pub mod Lists
 -- a source listed: push-none, push-new
 pub mod OneSource
--- a block's successors, all sources: Listed, rows-of
+-- a block's successors, all sources: Listed, lists-of
 pub mod Sources
 -- a cell set, cells cleared, the exit's alone: set-fair, cleared-more, begun-fair
 pub mod Written

@@ -1,5 +1,5 @@
--- One cost of one block passed on: some more cells are set, those of the blocks in its row.
--- Rests on theory Completions, Written, specs Rows and States.
+-- One cost of one block passed on: some more cells are set, those of the blocks in its list.
+-- Rests on theory Completions, Written, specs Joined, Lists and States.
 use mathlib.Core.Path.{_≡_, refl, sym, ap, subst, _∙_}
 use mathlib.Core.Bool.{true}
 use mathlib.Core.List.{List, List·Memᴰ}
@@ -11,7 +11,7 @@ use Rattle.theory.specs.Completions.{Graph, step, completes}
 use Rattle.theory.proofs.Completions.{completes-sound, completes-complete}
 use Rattle.calls.specs.Area.{cellOf, byteOf}
 use Rattle.weigh.specs.Joined.{Joined}
-use Rattle.weigh.specs.Rows.{Rows}
+use Rattle.weigh.specs.Lists.{Lists}
 use Rattle.weigh.specs.States.{Fair, Wider, Reached, Spread}
 use Rattle.weigh.proofs.Written.{kept-then, set-here, set-stays, set-kept, set-fair}
 
@@ -51,32 +51,32 @@ module _ {g : Graph} {n b : ℕ} {area : List ℕ} (F : Fair g n b area) where
       wrote-reached k =
           ap (λ (x : ℕ). getD after (cellOf b u x) 0) (sym q) ∙ set-here (F .ready) (F .cells) u d p l dear s
 
--- v's cost c is passed on to the first i blocks of v's row
-pub record Spreading (g : Graph) (n b : ℕ) (rows : List ℕ) (r v c : ℕ) (first area : List ℕ) (i : ℕ) : Type 0 where
+-- v's cost c is passed on to the first i blocks of v's list
+pub record Spreading (g : Graph) (n b : ℕ) (lists : List ℕ) (r v c : ℕ) (first area : List ℕ) (i : ℕ) : Type 0 where
   pub wide : Wider g n b first area
-  pub done : (j : ℕ) → j < i → Reached g b area (getD rows (cellOf r v j) 0) c
+  pub done : (j : ℕ) → j < i → Reached g b area (getD lists (cellOf r v j) 0) c
 
-module _ {g : Graph} {n b : ℕ} {rows : List ℕ} {r v c : ℕ} where
-  pub spread-none : {area : List ℕ} → Fair g n b area → Spreading g n b rows r v c area area 0
+module _ {g : Graph} {n b : ℕ} {lists : List ℕ} {r v c : ℕ} where
+  pub spread-none : {area : List ℕ} → Fair g n b area → Spreading g n b lists r v c area area 0
   spread-none F = record { wide = same-wide F; done = λ j l. absurd (omega arith) }
 
-  pub spread-more : {first area after : List ℕ} {i u : ℕ} → Spreading g n b rows r v c first area i → u ≡ getD rows (cellOf r v i) 0
-      → Wider g n b area after → Reached g b after u c → Spreading g n b rows r v c first after (i + 1)
+  pub spread-more : {first area after : List ℕ} {i u : ℕ} → Spreading g n b lists r v c first area i → u ≡ getD lists (cellOf r v i) 0
+      → Wider g n b area after → Reached g b after u c → Spreading g n b lists r v c first after (i + 1)
   spread-more {first} {area} {after} {i} {u} I q M h = record { wide = wider-then (I .wide) M; done = λ j l. go j l (ℕ-discrete j i) }
     where
-      go : (j : ℕ) → j < i + 1 → Dec (j ≡ i) → Reached g b after (getD rows (cellOf r v j) 0) c
+      go : (j : ℕ) → j < i + 1 → Dec (j ≡ i) → Reached g b after (getD lists (cellOf r v j) 0) c
       go j l (yes z) =
-          subst (λ (x : ℕ). Reached g b after (getD rows (cellOf r v x) 0) c) (sym z) (subst (λ (x : ℕ). Reached g b after x c) q h)
+          subst (λ (x : ℕ). Reached g b after (getD lists (cellOf r v x) 0) c) (sym z) (subst (λ (x : ℕ). Reached g b after x c) q h)
       go j l (no x) = reached-on M _ c (I .done j (omega arith))
 
-  pub spread-all : {first area counts : List ℕ} {i : ℕ} → Rows g n r rows counts → Spreading g n b rows r v c first area i
+  pub spread-all : {first area counts : List ℕ} {i : ℕ} → Lists g n r lists counts → Spreading g n b lists r v c first area i
       → getD counts v 0 ≤ i → Spread g b area v c
   unfolding Spread
   spread-all {first} {area} R I l u m =
       let x = R .full u v m in
       subst (λ (y : ℕ). Reached g b area y c) (x .here) (I .done (x .place) (omega (arith, x .below)))
 
--- a block of v's row has what v has, and its own cost
+-- a block of v's list has what v has, and its own cost
 pub before-completes : {g : Graph} {n : ℕ} → Joined g n → (u v c : ℕ) → List·Memᴰ v (g .next u) → completes g v c ≡ true
     → completes g u (g .cost u + c) ≡ true
 before-completes {g} G u v c m e = completes-complete g (G .laws) (step m (completes-sound g (G .laws) v c e) refl)

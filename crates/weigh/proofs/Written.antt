@@ -1,7 +1,7 @@
 -- Cells written: one cell set, cells cleared, the exit's cell alone; no cell is set but of a completion.
 -- Rests on theory Completions, cells Cells, Cells, specs States.
 use mathlib.Core.Path.{_≡_, refl, ap, _∙_}
-use mathlib.Core.Logic.{_⊎_, inl, inr}
+use mathlib.Core.Logic.{inl, inr}
 use mathlib.Core.Bool.{true}
 use mathlib.Core.List.{List}
 use Prim.Native.Nat.{ℕ, _+_, _*_, _≤_, _<_}

@@ -10,7 +10,7 @@ ghost use Rattle.theory.specs.Completions.{completes};
 ghost use Rattle.formats.specs.Limits.{mostBudget};
 ghost use Rattle.calls.specs.Area.{areaSize, filled};
 ghost use Rattle.graph_row.specs.GraphRow.{blocksIn, graphIn, Flat};
-ghost use Rattle.weigh.specs.Rows.{Listing, Pushed, Newest, Sources, Rows};
+ghost use Rattle.weigh.specs.Lists.{Listing, Pushed, Newest, Sources, Lists};
 ghost use Rattle.weigh.specs.States.{Ready, Kept, Cleared, Fair, Wider, Reached, Spread, Passed};
 use cells::is_set;
 use cells::place;
@@ -30,63 +30,63 @@ fn byte_at(bytes: &[u8], i: usize) -> usize
     bytes[i] as usize
 }
 
-// Whether u stands last in t's row.
-fn is_newest(row: &[u16], rows: &[u8], counts: &[u8], r: usize, t: usize, u: usize) -> bool
-    requires { ⌜ Listing (graphIn (now row)) (blocksIn (now row)) r (u + 1) (now rows) (now counts) ⌝ }
+// Whether u stands last in t's list.
+fn is_newest(row: &[u16], lists: &[u8], counts: &[u8], r: usize, t: usize, u: usize) -> bool
+    requires { ⌜ Listing (graphIn (now row)) (blocksIn (now row)) r (u + 1) (now lists) (now counts) ⌝ }
     requires { ⌜ (1 ≤ t) × (t ≤ blocksIn (now row)) × (1 ≤ u) ⌝ }
-    ensures { λ x. ⌜ Newest (now (rows .entry)) (now (counts .entry)) r t u x ⌝ }
+    ensures { λ x. ⌜ Newest (now (lists .entry)) (now (counts .entry)) r t u x ⌝ }
 {
     let k = byte_at(counts, t);
     if k == 0 {
         return false;
     }
     let i = place(r, t, k - 1);
-    byte_at(rows, i) == u
+    byte_at(lists, i) == u
 }
 
-// Lists u in the row of its successor t, once.
-fn push(row: &[u16], rows: &mut [u8], counts: &mut [u8], r: usize, t: usize, u: usize)
-    requires { ⌜ Listing (graphIn (now row)) (blocksIn (now row)) r (u + 1) (now rows) (now counts) ⌝ }
+// Lists u in the list of its successor t, once.
+fn push(row: &[u16], lists: &mut [u8], counts: &mut [u8], r: usize, t: usize, u: usize)
+    requires { ⌜ Listing (graphIn (now row)) (blocksIn (now row)) r (u + 1) (now lists) (now counts) ⌝ }
     requires { ⌜ (1 ≤ t) × (t ≤ blocksIn (now row)) × (1 ≤ u) ⌝ }
     requires { ⌜ List·Memᴰ t (graphIn (now row) .next u) ⌝ }
-    ensures { λ _. ⌜ Pushed (graphIn (now (row .entry))) (blocksIn (now (row .entry))) r t u (now (rows .entry)) (now (counts .entry)) (now (rows .exit)) (now (counts .exit)) ⌝ }
+    ensures { λ _. ⌜ Pushed (graphIn (now (row .entry))) (blocksIn (now (row .entry))) r t u (now (lists .entry)) (now (counts .entry)) (now (lists .exit)) (now (counts .exit)) ⌝ }
 {
-    if is_newest(row, rows, counts, r, t, u) {
+    if is_newest(row, lists, counts, r, t, u) {
         return;
     }
     let k = byte_at(counts, t);
     let i = place(r, t, k);
-    rows[i] = u as u8;
+    lists[i] = u as u8;
     counts[t] = (k + 1) as u8;
 }
 
-// Lists u in the rows of all its successors.
-fn list_source(row: &[u16], rows: &mut [u8], counts: &mut [u8], r: usize, u: usize)
+// Lists u in the lists of all its successors.
+fn list_source(row: &[u16], lists: &mut [u8], counts: &mut [u8], r: usize, u: usize)
     requires { ⌜ Flat (now row) ⌝ }
     requires { ⌜ (1 ≤ u) × (u ≤ blocksIn (now row)) ⌝ }
-    requires { ⌜ Sources (graphIn (now row)) (blocksIn (now row)) r u (now rows) (now counts) ⌝ }
-    ensures { λ _. ⌜ Sources (graphIn (now (row .entry))) (blocksIn (now (row .entry))) r (u + 1) (now (rows .exit)) (now (counts .exit)) ⌝ }
+    requires { ⌜ Sources (graphIn (now row)) (blocksIn (now row)) r u (now lists) (now counts) ⌝ }
+    ensures { λ _. ⌜ Sources (graphIn (now (row .entry))) (blocksIn (now (row .entry))) r (u + 1) (now (lists .exit)) (now (counts .exit)) ⌝ }
 {
     let a = start_in(row, u);
     let d = degree_in(row, u);
     let mut i = 0;
     while i < d {
         let t = word_at(row, a + i);
-        push(row, rows, counts, r, t, u);
+        push(row, lists, counts, r, t, u);
         i += 1;
     }
 }
 
-// The row of each block: the blocks that it succeeds.
-fn list_rows(row: &[u16], rows: &mut [u8], counts: &mut [u8], r: usize)
+// The list of each block: the blocks that it succeeds.
+fn list_all(row: &[u16], lists: &mut [u8], counts: &mut [u8], r: usize)
     requires { ⌜ Flat (now row) ⌝ }
-    requires { ⌜ Sources (graphIn (now row)) (blocksIn (now row)) r 1 (now rows) (now counts) ⌝ }
-    ensures { λ _. ⌜ Rows (graphIn (now (row .entry))) (blocksIn (now (row .entry))) r (now (rows .exit)) (now (counts .exit)) ⌝ }
+    requires { ⌜ Sources (graphIn (now row)) (blocksIn (now row)) r 1 (now lists) (now counts) ⌝ }
+    ensures { λ _. ⌜ Lists (graphIn (now (row .entry))) (blocksIn (now (row .entry))) r (now (lists .exit)) (now (counts .exit)) ⌝ }
 {
     let n = blocks_in(row);
     let mut u = 1;
     while u <= n {
-        list_source(row, rows, counts, r, u);
+        list_source(row, lists, counts, r, u);
         u += 1;
     }
 }
@@ -131,10 +131,10 @@ fn reach(row: &[u16], area: &mut [u8], b: usize, u: usize, c: usize)
     put(area, b, u, d, true);
 }
 
-// v's cost c, passed on to every block of its row.
+// v's cost c, passed on to every block of its list.
 fn spread(
     row: &[u16],
-    rows: &[u8],
+    lists: &[u8],
     counts: &[u8],
     r: usize,
     area: &mut [u8],
@@ -143,7 +143,7 @@ fn spread(
     c: usize,
 )
     requires { ⌜ Flat (now row) ⌝ }
-    requires { ⌜ Rows (graphIn (now row)) (blocksIn (now row)) r (now rows) (now counts) ⌝ }
+    requires { ⌜ Lists (graphIn (now row)) (blocksIn (now row)) r (now lists) (now counts) ⌝ }
     requires { ⌜ Fair (graphIn (now row)) (blocksIn (now row)) b (now area) ⌝ }
     requires { ⌜ (2 ≤ v) × (v ≤ blocksIn (now row)) × (c ≤ b) ⌝ }
     requires { ⌜ completes (graphIn (now row)) v c ≡ true ⌝ }
@@ -154,7 +154,7 @@ fn spread(
     let mut i = 0;
     while i < k {
         let j = place(r, v, i);
-        let u = byte_at(rows, j);
+        let u = byte_at(lists, j);
         reach(row, area, b, u, c);
         i += 1;
     }
@@ -163,7 +163,7 @@ fn spread(
 // The same where v has that cost.
 fn pass(
     row: &[u16],
-    rows: &[u8],
+    lists: &[u8],
     counts: &[u8],
     r: usize,
     area: &mut [u8],
@@ -172,7 +172,7 @@ fn pass(
     c: usize,
 )
     requires { ⌜ Flat (now row) ⌝ }
-    requires { ⌜ Rows (graphIn (now row)) (blocksIn (now row)) r (now rows) (now counts) ⌝ }
+    requires { ⌜ Lists (graphIn (now row)) (blocksIn (now row)) r (now lists) (now counts) ⌝ }
     requires { ⌜ Fair (graphIn (now row)) (blocksIn (now row)) b (now area) ⌝ }
     requires { ⌜ (2 ≤ v) × (v ≤ blocksIn (now row)) × (c ≤ b) ⌝ }
     requires { ⌜ Passed (graphIn (now row)) b (now area) c v ⌝ }
@@ -180,15 +180,23 @@ fn pass(
     ensures { λ _. ⌜ Passed (graphIn (now (row .entry))) b (now (area .exit)) c (v + 1) ⌝ }
 {
     if is_set(area, b, v, c) {
-        spread(row, rows, counts, r, area, b, v, c);
+        spread(row, lists, counts, r, area, b, v, c);
         return;
     }
 }
 
 // All blocks' cost c; block 1 is no block's successor.
-fn weigh_cost(row: &[u16], rows: &[u8], counts: &[u8], r: usize, area: &mut [u8], b: usize, c: usize)
+fn weigh_cost(
+    row: &[u16],
+    lists: &[u8],
+    counts: &[u8],
+    r: usize,
+    area: &mut [u8],
+    b: usize,
+    c: usize,
+)
     requires { ⌜ Flat (now row) ⌝ }
-    requires { ⌜ Rows (graphIn (now row)) (blocksIn (now row)) r (now rows) (now counts) ⌝ }
+    requires { ⌜ Lists (graphIn (now row)) (blocksIn (now row)) r (now lists) (now counts) ⌝ }
     requires { ⌜ Fair (graphIn (now row)) (blocksIn (now row)) b (now area) ⌝ }
     requires { ⌜ c ≤ b ⌝ }
     requires { ⌜ Passed (graphIn (now row)) b (now area) c 2 ⌝ }
@@ -198,50 +206,50 @@ fn weigh_cost(row: &[u16], rows: &[u8], counts: &[u8], r: usize, area: &mut [u8]
     let n = blocks_in(row);
     let mut v = 2;
     while v <= n {
-        pass(row, rows, counts, r, area, b, v, c);
+        pass(row, lists, counts, r, area, b, v, c);
         v += 1;
     }
 }
 
 // By rising costs.
-fn weigh_costs(row: &[u16], rows: &[u8], counts: &[u8], r: usize, area: &mut [u8], b: usize)
+fn weigh_costs(row: &[u16], lists: &[u8], counts: &[u8], r: usize, area: &mut [u8], b: usize)
     requires { ⌜ Flat (now row) ⌝ }
-    requires { ⌜ Rows (graphIn (now row)) (blocksIn (now row)) r (now rows) (now counts) ⌝ }
+    requires { ⌜ Lists (graphIn (now row)) (blocksIn (now row)) r (now lists) (now counts) ⌝ }
     requires { ⌜ Fair (graphIn (now row)) (blocksIn (now row)) b (now area) ⌝ }
     ensures { λ _. ⌜ Wider (graphIn (now (row .entry))) (blocksIn (now (row .entry))) b (now (area .entry)) (now (area .exit)) ⌝ }
     ensures { λ _. ⌜ Passed (graphIn (now (row .entry))) b (now (area .exit)) (b + 1) 2 ⌝ }
 {
     let mut c = 0;
     while c <= b {
-        weigh_cost(row, rows, counts, r, area, b, c);
+        weigh_cost(row, lists, counts, r, area, b, c);
         c += 1;
     }
 }
 
-// With rows that are lent.
-fn weigh_with(row: &[u16], rows: &mut [u8], r: usize, area: &mut [u8], b: usize)
+// With lists that are lent.
+fn weigh_with(row: &[u16], lists: &mut [u8], r: usize, area: &mut [u8], b: usize)
     requires { ⌜ Flat (now row) ⌝ }
     requires { ⌜ Ready (graphIn (now row)) (blocksIn (now row)) b (now area) ⌝ }
-    requires { ⌜ (blocksIn (now row) ≤ suc r) × (r ≤ mostBudget) × (areaSize (blocksIn (now row)) r ≤ length (now rows)) ⌝ }
+    requires { ⌜ (blocksIn (now row) ≤ suc r) × (r ≤ mostBudget) × (areaSize (blocksIn (now row)) r ≤ length (now lists)) ⌝ }
     ensures { λ _. ⌜ now (area .exit) ≡ filled (graphIn (now (row .entry))) (blocksIn (now (row .entry))) b (now (area .entry)) ⌝ }
 {
     let mut counts = [0u8; MOST_BLOCKS + 1];
-    list_rows(row, rows, &mut counts, r);
+    list_all(row, lists, &mut counts, r);
     begin(row, area, b);
-    weigh_costs(row, rows, &counts, r, area, b);
+    weigh_costs(row, lists, &counts, r, area, b);
 }
 
 const SMALL: usize = 32;
 
-// Few blocks have short rows.
+// Few blocks have short lists.
 fn weigh_small(row: &[u16], area: &mut [u8], b: usize)
     requires { ⌜ Flat (now row) ⌝ }
     requires { ⌜ Ready (graphIn (now row)) (blocksIn (now row)) b (now area) ⌝ }
     requires { ⌜ blocksIn (now row) ≤ 32 ⌝ }
     ensures { λ _. ⌜ now (area .exit) ≡ filled (graphIn (now (row .entry))) (blocksIn (now (row .entry))) b (now (area .entry)) ⌝ }
 {
-    let mut rows = [0u8; SMALL * SMALL];
-    weigh_with(row, &mut rows, SMALL - 1, area, b);
+    let mut lists = [0u8; SMALL * SMALL];
+    weigh_with(row, &mut lists, SMALL - 1, area, b);
 }
 
 fn weigh_large(row: &[u16], area: &mut [u8], b: usize)
@@ -249,8 +257,8 @@ fn weigh_large(row: &[u16], area: &mut [u8], b: usize)
     requires { ⌜ Ready (graphIn (now row)) (blocksIn (now row)) b (now area) ⌝ }
     ensures { λ _. ⌜ now (area .exit) ≡ filled (graphIn (now (row .entry))) (blocksIn (now (row .entry))) b (now (area .entry)) ⌝ }
 {
-    let mut rows = [0u8; MOST_BLOCKS * MOST_BLOCKS];
-    weigh_with(row, &mut rows, MOST_BLOCKS - 1, area, b);
+    let mut lists = [0u8; MOST_BLOCKS * MOST_BLOCKS];
+    weigh_with(row, &mut lists, MOST_BLOCKS - 1, area, b);
 }
 
 // Fills the area for the budget b: by rising costs each set cell passes its cost on to the blocks before its block. What lies behind the cells stays.

@@ -1,9 +1,9 @@
--- A source that is not the last of the row is put behind it.
--- Rests on Rows, OneSource.
+-- A source that is not the last of the list is put behind it.
+-- Rests on Lists, OneSource.
 use mathlib.Core.Path.{refl}
 use native.Mathlib.Omega.{arith}
 use borrow.Author.Needs.{needs}
-use Rattle.weigh.proofs.Rows.{counted}
+use Rattle.weigh.proofs.Lists.{counted}
 use Rattle.weigh.proofs.OneSource.{push-none, new-small, new-fits, push-new}
 use Rattle.weigh.proofs.push.Statement.{statement}
 use Rattle.weigh.proofs.push.Tie as tie
@@ -28,15 +28,15 @@ place-requires c κs =
     let l = n .is-newest .ensures .new (c .before .before .if1 .left) in
     new-fits (z .pre .0) _ (z .pre .1 .0 .0, z .pre .1 .0 .1) (z .pre .1 .1) (c .byte-at .ensures .0) l .0
 
-cast-rows : tie.Need-cast-rows
-cast-rows c =
+cast-lists : tie.Need-cast-lists
+cast-lists c =
     let n = c .before .before .before .before in
     let z = n .before .before .before .before .before .before in
     let l = n .is-newest .ensures .new (c .before .before .before .if1 .left) in
     omega (arith, new-small (z .pre .0) _ (z .pre .1 .0 .0, z .pre .1 .0 .1) (z .pre .1 .1) (c .before .byte-at .ensures .0) l)
 
-slice-write-rows : tie.Need-slice-write-rows
-slice-write-rows c =
+slice-write-lists : tie.Need-slice-write-lists
+slice-write-lists c =
     let n = c .before .before .before .before in
     let z = n .before .before .before .before .before .before in
     let l = n .is-newest .ensures .new (c .before .before .before .if1 .left) in
@@ -66,5 +66,5 @@ returns-2 c =
 pub push-spec : {M : Type 1} → statement M
 push-spec =
     tie.close
-    (tie.spec is-newest-requires (λ c. search needs) (λ c. search needs) returns byte-at-requires place-requires cast-rows
-    slice-write-rows (λ c. search needs) cast-counts slice-write-counts (λ c. search needs) (λ c. search needs) returns-2)
+    (tie.spec is-newest-requires (λ c. search needs) (λ c. search needs) returns byte-at-requires place-requires cast-lists
+    slice-write-lists (λ c. search needs) cast-counts slice-write-counts (λ c. search needs) (λ c. search needs) returns-2)

@@ -1,24 +1,24 @@
--- The loop down v's row passes its cost on.
--- Rests on Rows, OneCost.
+-- The loop down v's list passes its cost on.
+-- Rests on Lists, OneCost.
 use Prim.Native.Nat.{_-_, _≤_}
 use native.Mathlib.Omega.{arith}
 use borrow.Author.Needs.{needs}
 use Rattle.graph_row.specs.GraphRow.{blocksIn, graphIn}
-use Rattle.weigh.proofs.Rows.{row-counted, row-fits, row-at, row-block, row-before}
+use Rattle.weigh.proofs.Lists.{list-counted, list-fits, list-at, list-block, list-before}
 use Rattle.weigh.proofs.OneCost.{Spreading, spread-none, spread-more, spread-all, before-completes}
 use Rattle.weigh.proofs.spread.Statement.{statement}
 use Rattle.weigh.proofs.spread.Tie as tie
 
 abbrev Inv-loop : tie.InvT-loop
-Inv-loop row rows counts r area₀ b v c k i₀ area i = (i ≤ k) × Spreading (graphIn row) (blocksIn row) b rows r v c area₀ area i
+Inv-loop row lists counts r area₀ b v c k i₀ area i = (i ≤ k) × Spreading (graphIn row) (blocksIn row) b lists r v c area₀ area i
 
 abbrev μ-loop : tie.MeasureT-loop
-μ-loop row rows counts r area₀ b v c k i₀ area i = k - i
+μ-loop row lists counts r area₀ b v c k i₀ area i = k - i
 
 byte-at-requires : tie.Need-byte-at-requires Inv-loop μ-loop
 byte-at-requires c κs =
     let z = c .before .before .before .before in
-    row-counted (z .pre .1 .0) _ (z .pre .1 .1 .1 .0 .0, z .pre .1 .1 .1 .0 .1)
+    list-counted (z .pre .1 .0) _ (z .pre .1 .1 .1 .0 .0, z .pre .1 .1 .1 .0 .1)
 
 loop-holds : tie.Need-loop-holds Inv-loop μ-loop
 loop-holds c = (omega arith, spread-none (c .before .before .before .before .before .pre .1 .1 .0))
@@ -27,13 +27,13 @@ place-requires : tie.Need-place-requires Inv-loop μ-loop
 place-requires c κs =
     let l = c .before in
     let z = l .before .before .before .before .before .before in
-    row-fits (z .pre .1 .0) _ (z .pre .1 .1 .1 .0 .0, z .pre .1 .1 .1 .0 .1) (l .before .byte-at .ensures .0) _ (c .loop-test .taken) .0
+    list-fits (z .pre .1 .0) _ (z .pre .1 .1 .1 .0 .0, z .pre .1 .1 .1 .0 .1) (l .before .byte-at .ensures .0) _ (c .loop-test .taken) .0
 
 byte-at-requires-2 : tie.Need-byte-at-requires-2 Inv-loop μ-loop
 byte-at-requires-2 c κs =
     let l = c .before .before in
     let z = l .before .before .before .before .before .before in
-    let q = row-fits (z .pre .1 .0) _ (z .pre .1 .1 .1 .0 .0, z .pre .1 .1 .1 .0 .1) (l .before .byte-at .ensures .0) _ (c .before .loop-test .taken) in
+    let q = list-fits (z .pre .1 .0) _ (z .pre .1 .1 .1 .0 .0, z .pre .1 .1 .1 .0 .1) (l .before .byte-at .ensures .0) _ (c .before .loop-test .taken) in
     omega (arith, c .place .ensures, q .1)
 
 reach-requires : tie.Need-reach-requires Inv-loop μ-loop
@@ -44,8 +44,8 @@ reach-requires c κs =
     let k = l .before .byte-at .ensures .0 in
     let t = y .before .before .loop-test .taken in
     let F = l .loop .inv .1 .wide .fair in
-    let q = row-block (z .pre .1 .0) _ (z .pre .1 .1 .1 .0 .0, z .pre .1 .1 .1 .0 .1) k _ t (y .before .place .ensures) (y .byte-at2 .ensures .0) in
-    let m = row-before (z .pre .1 .0) _ (z .pre .1 .1 .1 .0 .0, z .pre .1 .1 .1 .0 .1) k _ t (y .before .place .ensures) (y .byte-at2 .ensures .0) in
+    let q = list-block (z .pre .1 .0) _ (z .pre .1 .1 .1 .0 .0, z .pre .1 .1 .1 .0 .1) k _ t (y .before .place .ensures) (y .byte-at2 .ensures .0) in
+    let m = list-before (z .pre .1 .0) _ (z .pre .1 .1 .1 .0 .0, z .pre .1 .1 .1 .0 .1) k _ t (y .before .place .ensures) (y .byte-at2 .ensures .0) in
     (z .pre .0, (F, ((q .0, q .1, z .pre .1 .1 .1 .0 .2), before-completes (F .ready .graph) _ _ _ m (z .pre .1 .1 .1 .1))))
 
 loop-again : tie.Need-loop-again Inv-loop μ-loop
@@ -56,7 +56,7 @@ loop-again c =
     let z = l .before .before .before .before .before .before in
     let k = l .before .byte-at .ensures .0 in
     let t = y .before .before .loop-test .taken in
-    let q = row-at (z .pre .1 .0) _ (z .pre .1 .1 .1 .0 .0, z .pre .1 .1 .1 .0 .1) k _ t (y .before .place .ensures) (y .byte-at2 .ensures .0) in
+    let q = list-at (z .pre .1 .0) _ (z .pre .1 .1 .1 .0 .0, z .pre .1 .1 .1 .0 .1) k _ t (y .before .place .ensures) (y .byte-at2 .ensures .0) in
     (omega arith, spread-more (l .loop .inv .1) q (g .reach .ensures .0) (g .reach .ensures .1))
 
 same-length : tie.Need-same-length Inv-loop μ-loop

@@ -1,4 +1,4 @@
--- The rows are as long as the graph asks.
+-- The lists are as long as the graph asks.
 -- Rests on Flat.
 use native.Mathlib.Omega.{arith}
 use borrow.Author.Needs.{needs}

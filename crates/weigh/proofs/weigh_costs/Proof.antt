@@ -12,10 +12,10 @@ use Rattle.weigh.proofs.weigh_costs.Statement.{statement}
 use Rattle.weigh.proofs.weigh_costs.Tie as tie
 
 abbrev Inv-loop : tie.InvT-loop
-Inv-loop row rows counts r area₀ b c₀ area c = (c ≤ b + 1) × Wider (graphIn row) (blocksIn row) b area₀ area × Passed (graphIn row) b area c 2
+Inv-loop row lists counts r area₀ b c₀ area c = (c ≤ b + 1) × Wider (graphIn row) (blocksIn row) b area₀ area × Passed (graphIn row) b area c 2
 
 abbrev μ-loop : tie.MeasureT-loop
-μ-loop row rows counts r area₀ b c₀ area c = b + 1 - c
+μ-loop row lists counts r area₀ b c₀ area c = b + 1 - c
 
 loop-holds : tie.Need-loop-holds Inv-loop μ-loop
 loop-holds c =

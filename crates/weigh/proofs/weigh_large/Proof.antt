@@ -1,9 +1,9 @@
--- Rows for all blocks that a graph may have.
--- Rests on Rows.
+-- Lists for all blocks that a graph may have.
+-- Rests on Lists.
 use native.Mathlib.Omega.{arith}
 use borrow.Author.Needs.{needs}
 use lib.ListN.{length-replicate}
-use Rattle.weigh.proofs.Rows.{few-places}
+use Rattle.weigh.proofs.Lists.{few-places}
 use Rattle.weigh.proofs.weigh_large.Statement.{statement}
 use Rattle.weigh.proofs.weigh_large.Tie as tie
 

@@ -1,9 +1,9 @@
--- Rows for few blocks.
--- Rests on Rows.
+-- Lists for few blocks.
+-- Rests on Lists.
 use native.Mathlib.Omega.{arith}
 use borrow.Author.Needs.{needs}
 use lib.ListN.{length-replicate}
-use Rattle.weigh.proofs.Rows.{few-places}
+use Rattle.weigh.proofs.Lists.{few-places}
 use Rattle.weigh.proofs.weigh_small.Statement.{statement}
 use Rattle.weigh.proofs.weigh_small.Tie as tie
 

@@ -1,18 +1,17 @@
--- The rows are listed, the cells cleared, and all costs passed on: the area is filled.
+-- The sources are listed, the cells cleared, and all costs passed on: the area is filled.
 -- Rests on Sources, Written, Forward, Filled.
-use native.Mathlib.Omega.{arith}
 use borrow.Author.Needs.{needs}
-use Rattle.weigh.proofs.Sources.{rows-none}
+use Rattle.weigh.proofs.Sources.{lists-none}
 use Rattle.weigh.proofs.Written.{kept-then}
 use Rattle.weigh.proofs.Forward.{all-right}
 use Rattle.weigh.proofs.Filled.{is-filled}
 use Rattle.weigh.proofs.weigh_with.Statement.{statement}
 use Rattle.weigh.proofs.weigh_with.Tie as tie
 
-list-rows-requires : tie.Need-list-rows-requires
-list-rows-requires c κs =
+list-all-requires : tie.Need-list-all-requires
+list-all-requires c κs =
     let z = c .before .before .before .before .before in
-    (z .pre .0, rows-none (z .pre .1 .0 .graph) (z .pre .1 .1))
+    (z .pre .0, lists-none (z .pre .1 .0 .graph) (z .pre .1 .1))
 
 begin-requires : tie.Need-begin-requires
 begin-requires c κs =
@@ -23,7 +22,7 @@ weigh-costs-requires : tie.Need-weigh-costs-requires
 weigh-costs-requires c κs =
     let g = c .before .before .before .before .before in
     let l = g .before .before .before .before .before in
-    (l .before .before .before .before .before .before .pre .0, (l .list-rows .ensures, g .begin .ensures .1))
+    (l .before .before .before .before .before .before .pre .0, (l .list-all .ensures, g .begin .ensures .1))
 
 same-length : tie.Need-same-length
 same-length c = search needs
@@ -45,5 +44,5 @@ same-length-2 c =
 pub weigh-with-spec : {M : Type 1} → statement M
 weigh-with-spec =
     tie.close
-    (tie.spec (λ c. search needs) list-rows-requires begin-requires (λ c. search needs) weigh-costs-requires same-length same-length-2
+    (tie.spec (λ c. search needs) list-all-requires begin-requires (λ c. search needs) weigh-costs-requires same-length same-length-2
     returns)

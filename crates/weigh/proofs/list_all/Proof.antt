@@ -6,18 +6,18 @@ use native.Mathlib.Omega.{arith}
 use borrow.Author.Needs.{needs}
 use lib.ListN.{length}
 use Rattle.graph_row.specs.GraphRow.{blocksIn, graphIn}
-use Rattle.weigh.specs.Rows.{Sources}
+use Rattle.weigh.specs.Lists.{Sources}
 use Rattle.weigh.proofs.Flat.{joined}
-use Rattle.weigh.proofs.Sources.{rows-of}
-use Rattle.weigh.proofs.list_rows.Statement.{statement}
-use Rattle.weigh.proofs.list_rows.Tie as tie
+use Rattle.weigh.proofs.Sources.{lists-of}
+use Rattle.weigh.proofs.list_all.Statement.{statement}
+use Rattle.weigh.proofs.list_all.Tie as tie
 
 abbrev Inv-loop : tie.InvT-loop
-Inv-loop row rows₀ counts₀ r n u₀ rows counts u =
-    (1 ≤ u) × (u ≤ n + 1) × (length rows ≡ length rows₀) × (length counts ≡ length counts₀) × Sources (graphIn row) (blocksIn row) r u rows counts
+Inv-loop row lists₀ counts₀ r n u₀ lists counts u =
+    (1 ≤ u) × (u ≤ n + 1) × (length lists ≡ length lists₀) × (length counts ≡ length counts₀) × Sources (graphIn row) (blocksIn row) r u lists counts
 
 abbrev μ-loop : tie.MeasureT-loop
-μ-loop row rows₀ counts₀ r n u₀ rows counts u = n + 1 - u
+μ-loop row lists₀ counts₀ r n u₀ lists counts u = n + 1 - u
 
 blocks-in-requires : tie.Need-blocks-in-requires Inv-loop μ-loop
 blocks-in-requires c κs = omega (arith, c .before .before .before .pre .0 .room)
@@ -46,10 +46,10 @@ returns : tie.Need-returns Inv-loop μ-loop
 returns c =
     let l = c .before in
     let z = l .before .before .before .before .before in
-    rows-of (joined (z .pre .0)) (omega (arith, l .before .blocks-in .ensures .0)) (l .loop .inv .4)
+    lists-of (joined (z .pre .0)) (omega (arith, l .before .blocks-in .ensures .0)) (l .loop .inv .4)
 
-pub list-rows-spec : {M : Type 1} → statement M
-list-rows-spec =
+pub list-all-spec : {M : Type 1} → statement M
+list-all-spec =
     tie.close
     (tie.spec Inv-loop μ-loop blocks-in-requires loop-holds list-source-requires (λ c. search needs) (λ c. search needs) loop-again
     same-length same-length-2 returns)
