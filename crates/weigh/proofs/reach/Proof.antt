@@ -18,7 +18,8 @@ add-d c = omega (arith, c .cost-in .ensures .1, c .before .before .before .pre .
 returns : tie.Need-returns
 returns c =
     let z = c .before .before .before .before in
-    (same-wide (z .pre .1 .0), beyond (z .pre .1 .0) _ _ (omega (arith, c .before .cost-in .ensures .0, cost-is _ _ (z .pre .1 .1 .0 .0) (z .pre .1 .1 .0 .1))) (c .if1 .taken))
+    let k = cost-is _ _ (z .pre .1 .1 .0 .0) (z .pre .1 .1 .0 .1) in
+    (same-wide (z .pre .1 .0), beyond (z .pre .1 .0) _ _ (omega (arith, c .before .cost-in .ensures .0, k)) (c .if1 .taken))
 
 put-requires : tie.Need-put-requires
 put-requires c κs =
@@ -28,11 +29,13 @@ put-requires c κs =
 returns-2 : tie.Need-returns-2
 returns-2 c =
     let f = c .before .before .before .before in
-    let z = f .before .before .before .before in (
-      wrote (z .pre .1 .0) _ _ (omega (arith, f .before .cost-in .ensures .0, cost-is _ _ (z .pre .1 .1 .0 .0) (z .pre .1 .1 .0 .1))) (z .pre .1 .1 .0 .0, z .pre .1 .1 .0 .1) (z .pre .1 .1 .1) (f .if1 .left)
-          (c .before .before .put .ensures),
-      wrote-reached (z .pre .1 .0) _ _ (omega (arith, f .before .cost-in .ensures .0, cost-is _ _ (z .pre .1 .1 .0 .0) (z .pre .1 .1 .0 .1))) (z .pre .1 .1 .0 .0, z .pre .1 .1 .0 .1) (z .pre .1 .1 .1)
-          (f .if1 .left) (c .before .before .put .ensures),
+    let z = f .before .before .before .before in
+    let F = z .pre .1 .0 in
+    let p = z .pre .1 .1 .0 in
+    let m = z .pre .1 .1 .1 in
+    let k = cost-is _ _ (p .0) (p .1) in (
+      wrote F _ _ (omega (arith, f .before .cost-in .ensures .0, k)) (p .0, p .1) m (f .if1 .left) (c .before .before .put .ensures),
+      wrote-reached F _ _ (omega (arith, f .before .cost-in .ensures .0, k)) (p .0, p .1) m (f .if1 .left) (c .before .before .put .ensures),
     )
 
 same-length : tie.Need-same-length

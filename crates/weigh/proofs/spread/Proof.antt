@@ -1,6 +1,6 @@
 -- The loop down v's list passes its cost on.
 -- Rests on Lists, OneCost.
-use Prim.Native.Nat.{_-_, _≤_}
+use Prim.Native.Nat.{_-_, _≤_, _<_}
 use native.Mathlib.Omega.{arith}
 use borrow.Author.Needs.{needs}
 use Rattle.graph_row.specs.GraphRow.{blocksIn, graphIn}
@@ -27,13 +27,15 @@ place-requires : tie.Need-place-requires Inv-loop μ-loop
 place-requires c κs =
     let l = c .before in
     let z = l .before .before .before .before .before .before in
-    list-fits (z .pre .1 .0) _ (z .pre .1 .1 .1 .0 .0, z .pre .1 .1 .1 .0 .1) (l .before .byte-at .ensures .0) _ (c .loop-test .taken) .0
+    list-fits (z .pre .1 .0) _ (z .pre .1 .1 .1 .0 .0, z .pre .1 .1 .1 .0 .1) (l .before .byte-at .ensures .0) (l .loop .i)
+    (omega (arith, c .loop-test .taken)) .0
 
 byte-at-requires-2 : tie.Need-byte-at-requires-2 Inv-loop μ-loop
 byte-at-requires-2 c κs =
     let l = c .before .before in
     let z = l .before .before .before .before .before .before in
-    let q = list-fits (z .pre .1 .0) _ (z .pre .1 .1 .1 .0 .0, z .pre .1 .1 .1 .0 .1) (l .before .byte-at .ensures .0) _ (c .before .loop-test .taken) in
+    let q = list-fits (z .pre .1 .0) _ (z .pre .1 .1 .1 .0 .0, z .pre .1 .1 .1 .0 .1) (l .before .byte-at .ensures .0) (l .loop .i)
+    (omega (arith, c .before .loop-test .taken)) in
     omega (arith, c .place .ensures, q .1)
 
 reach-requires : tie.Need-reach-requires Inv-loop μ-loop
@@ -42,10 +44,11 @@ reach-requires c κs =
     let l = y .before .before .before in
     let z = l .before .before .before .before .before .before in
     let k = l .before .byte-at .ensures .0 in
-    let t = y .before .before .loop-test .taken in
+    let i = l .loop .i in
+    let t : i < l .before .byte-at .result = omega (arith, y .before .before .loop-test .taken) in
     let F = l .loop .inv .1 .wide .fair in
-    let q = list-block (z .pre .1 .0) _ (z .pre .1 .1 .1 .0 .0, z .pre .1 .1 .1 .0 .1) k _ t (y .before .place .ensures) (y .byte-at2 .ensures .0) in
-    let m = list-before (z .pre .1 .0) _ (z .pre .1 .1 .1 .0 .0, z .pre .1 .1 .1 .0 .1) k _ t (y .before .place .ensures) (y .byte-at2 .ensures .0) in
+    let q = list-block (z .pre .1 .0) _ (z .pre .1 .1 .1 .0 .0, z .pre .1 .1 .1 .0 .1) k i t (y .before .place .ensures) (y .byte-at2 .ensures .0) in
+    let m = list-before (z .pre .1 .0) _ (z .pre .1 .1 .1 .0 .0, z .pre .1 .1 .1 .0 .1) k i t (y .before .place .ensures) (y .byte-at2 .ensures .0) in
     (z .pre .0, (F, ((q .0, q .1, z .pre .1 .1 .1 .0 .2), before-completes (F .ready .graph) _ _ _ m (z .pre .1 .1 .1 .1))))
 
 loop-again : tie.Need-loop-again Inv-loop μ-loop
@@ -55,8 +58,9 @@ loop-again c =
     let l = y .before .before .before in
     let z = l .before .before .before .before .before .before in
     let k = l .before .byte-at .ensures .0 in
-    let t = y .before .before .loop-test .taken in
-    let q = list-at (z .pre .1 .0) _ (z .pre .1 .1 .1 .0 .0, z .pre .1 .1 .1 .0 .1) k _ t (y .before .place .ensures) (y .byte-at2 .ensures .0) in
+    let i = l .loop .i in
+    let t : i < l .before .byte-at .result = omega (arith, y .before .before .loop-test .taken) in
+    let q = list-at (z .pre .1 .0) _ (z .pre .1 .1 .1 .0 .0, z .pre .1 .1 .1 .0 .1) k i t (y .before .place .ensures) (y .byte-at2 .ensures .0) in
     (omega arith, spread-more (l .loop .inv .1) q (g .reach .ensures .0) (g .reach .ensures .1))
 
 same-length : tie.Need-same-length Inv-loop μ-loop

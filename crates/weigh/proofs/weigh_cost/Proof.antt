@@ -11,7 +11,8 @@ use Rattle.weigh.proofs.weigh_cost.Statement.{statement}
 use Rattle.weigh.proofs.weigh_cost.Tie as tie
 
 abbrev Inv-loop : tie.InvT-loop
-Inv-loop row lists counts r area₀ b c n v₀ area v = (2 ≤ v) × (v ≤ n + 1) × Wider (graphIn row) (blocksIn row) b area₀ area × Passed (graphIn row) b area c v
+Inv-loop row lists counts r area₀ b c n v₀ area v =
+    (2 ≤ v) × (v ≤ n + 1) × Wider (graphIn row) (blocksIn row) b area₀ area × Passed (graphIn row) b area c v
 
 abbrev μ-loop : tie.MeasureT-loop
 μ-loop row lists counts r area₀ b c n v₀ area v = n + 1 - v
