@@ -30,8 +30,8 @@ returns-2 c =
     let ok = sym (z .before .check-graph .ensures) ∙ z .if1 .left in
     area-refused _ _ ok (c .before .before .blocks2 .ensures .0) (c .before .budget .ensures .0) (c .if2 .taken)
 
-weigh-requires : tie.Need-weigh-requires
-weigh-requires c κs =
+weigh-graph-requires : tie.Need-weigh-graph-requires
+weigh-graph-requires c κs =
     let n = c .before .before .before in
     let ok = sym (n .before .before .check-graph .ensures) ∙ n .before .if1 .left in
     let area = n .before .before .before .before .before .args .area .now in
@@ -43,7 +43,7 @@ look-up-requires c κs =
     let e = f .before .before in
     let n = e .before .before in
     let ok = sym (n .before .before .check-graph .ensures) ∙ n .before .if1 .left in
-    (ok, looks _ _ ok (n .blocks2 .ensures .0) (e .before .budget .ensures .0) (e .if2 .left) (f .weigh .ensures))
+    (ok, looks _ _ ok (n .blocks2 .ensures .0) (e .before .budget .ensures .0) (e .if2 .left) (f .weigh-graph .ensures))
 
 returns-3 : tie.Need-returns-3
 returns-3 c =
@@ -51,7 +51,7 @@ returns-3 c =
     let e = f .before .before in
     let n = e .before .before in
     let ok = sym (n .before .before .check-graph .ensures) ∙ n .before .if1 .left in
-    nothing-fits _ _ ok (n .blocks2 .ensures .0) (e .before .budget .ensures .0) (e .if2 .left) (f .weigh .ensures)
+    nothing-fits _ _ ok (n .blocks2 .ensures .0) (e .before .budget .ensures .0) (e .if2 .left) (f .weigh-graph .ensures)
     (c .before .before .look-up .ensures) (c .if3 .taken)
 
 returns-4 : tie.Need-returns-4
@@ -60,11 +60,11 @@ returns-4 c =
     let e = f .before .before in
     let n = e .before .before in
     let ok = sym (n .before .before .check-graph .ensures) ∙ n .before .if1 .left in
-    something-fits _ _ ok (n .blocks2 .ensures .0) (e .before .budget .ensures .0) (e .if2 .left) (f .weigh .ensures)
+    something-fits _ _ ok (n .blocks2 .ensures .0) (e .before .budget .ensures .0) (e .if2 .left) (f .weigh-graph .ensures)
     (c .before .before .look-up .ensures) (c .if3 .left)
 
 pub weigh-sheet-spec : {M : Type 1} → statement M
 weigh-sheet-spec =
     tie.close
-    (tie.spec (λ c κs. search needs) returns blocks-requires budget-requires (λ c. search needs) mul-if2 returns-2 weigh-requires
+    (tie.spec (λ c κs. search needs) returns blocks-requires budget-requires (λ c. search needs) mul-if2 returns-2 weigh-graph-requires
     look-up-requires (λ c. search needs) returns-3 (λ c. search needs) returns-4)
