@@ -1,6 +1,7 @@
-// The linked library beside the reference: cases of every call, compared; sheets to be measured; and a plain build to measure against.
+// The linked library beside the reference: cases of every call, compared; sheets to be measured; and two builds to measure against.
 // It rests on the wrapper in ../rust and the independent implementation in ../reference.
 
 pub mod cases;
 pub mod plain;
 pub mod sheets;
+pub mod tuned;

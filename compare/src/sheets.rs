@@ -44,6 +44,20 @@ pub fn largest() -> Vec<(&'static str, Vec<u16>)> {
     sheets
 }
 
+/// Two blocks, or three, with so many edges side by side as there may be.
+pub fn parallel() -> Vec<(&'static str, Vec<u16>)> {
+    vec![
+        ("512 edges from the start to the exit, B = 500", graph_sheet(&[0, 0], &[vec![2; 512], vec![]], 500)),
+        ("511 edges of a block of cost 1 to the exit, B = 500", graph_sheet(&[0, 0, 1], &[vec![3], vec![], vec![2; 511]], 500)),
+        (
+            "a block of cost 1 to itself, behind 510 edges to the exit, B = 40",
+            graph_sheet(&[0, 0, 1], &[vec![3], vec![], [vec![2; 510], vec![3]].concat()], 40),
+        ),
+        ("two blocks, one edge, B = 0", graph_sheet(&[0, 0], &[vec![2], vec![]], 0)),
+        ("two blocks, one edge, B = 500", graph_sheet(&[0, 0], &[vec![2], vec![]], 500)),
+    ]
+}
+
 /// The deepest descent: a block of cost 1 that loops, B = 500.
 pub fn deepest() -> Vec<u16> {
     graph_sheet(&[0, 0, 1], &[vec![3], vec![], vec![3, 2]], 500)

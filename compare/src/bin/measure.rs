@@ -1,10 +1,10 @@
-// measure: the library's times beside the reference's and the plain build's, same inputs, one run.
-// It rests on the wrapper, plain.rs, sheets.rs and the reference; every answer, area and output is held to the reference's first.
+// measure: the library's times beside those of the reference, the plain build and the tuned one, same inputs, one run.
+// It rests on the wrapper, plain.rs, tuned.rs, sheets.rs and the reference; every answer, area and output is held to the reference's first.
 //
-// A time is the least of 9 rounds, each the mean of as many calls as take about 1 ms; in a round the three are timed one after the other.
+// A time is the least of 9 rounds, each the mean of as many calls as take about 1 ms; in a round all are timed one after the other.
 // The buffers are not cleared between calls.
 
-use compare::{plain, sheets};
+use compare::{plain, sheets, tuned};
 use gilstavo::raw;
 use reference::{corpus, End, Walk};
 use std::hint::black_box;
@@ -41,25 +41,33 @@ struct Times {
     copies: u16,
     edges: u16,
     library: f64,
+    tuned: f64,
     plain: f64,
     reference: f64,
 }
 
-/// The build of one sheet, three times over.
+/// The build of one sheet, four times over.
 fn build(sheet: &[u16]) -> Times {
+    let mut rows = tuned::Workspace::default();
     let mut area = vec![7; gilstavo::MOST_AREA];
     let mut output = vec![9; gilstavo::MOST_OUTPUT];
     let wanted = reference::build(sheet, &area, &output);
     let (mut other_area, mut other_output) = (area.clone(), output.clone());
+    let (mut third_area, mut third_output) = (area.clone(), output.clone());
     let answer = raw::build(sheet, &mut area, &mut output);
     let other = plain::build(sheet, &mut other_area, &mut other_output);
     assert_eq!((answer, &area, &output), (wanted.answer, &wanted.area, &wanted.output), "{sheet:?}");
     assert_eq!((other, &other_area, &other_output), (wanted.answer, &wanted.area, &wanted.output), "{sheet:?}");
+    let third = rows.build(sheet, &mut third_area, &mut third_output);
+    assert_eq!((third, &third_area, &third_output), (wanted.answer, &wanted.area, &wanted.output), "{sheet:?}");
     let (copies, edges) = if answer == 0 { (output[0], output[1]) } else { (0, 0) };
     let (kept_area, kept_output) = (area.clone(), output.clone());
     let took = timed(&mut [
         &mut || {
             black_box(raw::build(black_box(sheet), &mut area, &mut output));
+        },
+        &mut || {
+            black_box(rows.build(black_box(sheet), &mut third_area, &mut third_output));
         },
         &mut || {
             black_box(plain::build(black_box(sheet), &mut other_area, &mut other_output));
@@ -68,14 +76,16 @@ fn build(sheet: &[u16]) -> Times {
             black_box(reference::build(black_box(sheet), &kept_area, &kept_output));
         },
     ]);
-    Times { answer, copies, edges, library: took[0], plain: took[1], reference: took[2] }
+    Times { answer, copies, edges, library: took[0], tuned: took[1], plain: took[2], reference: took[3] }
 }
 
 fn show(name: &str, t: &Times) {
     let what = if t.answer == 0 { format!("{} copies, {} edges", t.copies, t.edges) } else { format!("refused {}", t.answer) };
     println!(
-        "{name} ({what}): {:.1} µs; plain {:.1}, ratio {:.2}; reference {:.1}, ratio {:.2}",
+        "{name} ({what}): {:.1} µs; tuned {:.1}, ratio {:.2}; plain {:.1}, ratio {:.2}; reference {:.1}, ratio {:.2}",
         t.library,
+        t.tuned,
+        t.library / t.tuned,
         t.plain,
         t.library / t.plain,
         t.reference,
@@ -83,17 +93,20 @@ fn show(name: &str, t: &Times) {
     );
 }
 
-/// The times of some sheets: their sums, and the means of their ratios.
+/// The times of some sheets: their sums, the means of their ratios, and the greatest ratio to the tuned build.
 fn group(name: &str, times: Vec<&Times>) {
     let sum = |of: fn(&Times) -> f64| times.iter().map(|t| of(t)).sum::<f64>();
     let count = times.len() as f64;
     println!(
-        "{name}: {count} sheets, mean {:.2} µs; ratio of the sums to plain {:.2}, to the reference {:.2}; mean ratio to plain {:.2}, to the reference {:.2}",
+        "{name}: {count} sheets, mean {:.2} µs; ratio of the sums to tuned {:.2}, to plain {:.2}, to the reference {:.2}; mean ratio to tuned {:.2}, to plain {:.2}, to the reference {:.2}; greatest to tuned {:.2}",
         sum(|t| t.library) / count,
+        sum(|t| t.library) / sum(|t| t.tuned),
         sum(|t| t.library) / sum(|t| t.plain),
         sum(|t| t.library) / sum(|t| t.reference),
+        sum(|t| t.library / t.tuned) / count,
         sum(|t| t.library / t.plain) / count,
-        sum(|t| t.library / t.reference) / count
+        sum(|t| t.library / t.reference) / count,
+        times.iter().map(|t| t.library / t.tuned).fold(0.0, f64::max)
     );
 }
 
@@ -114,6 +127,11 @@ fn main() {
     }
     let yardstick =
         largest.iter().filter(|(_, t)| t.answer == 0).map(|(_, t)| t.library).fold(0.0, f64::max);
+
+    println!("EDGES SIDE BY SIDE, AND THE LEAST SHEETS");
+    for (name, sheet) in &sheets::parallel() {
+        show(name, &build(sheet));
+    }
 
     println!("THE WORST SHEETS");
     let names = [

@@ -1,0 +1,223 @@
+// A build tuned as one would in C: one pass of checks that decodes as it goes, rows that are kept between calls and cleared only as far as they
+// are used, completions as masks over blocks, marks as masks over lows. It rests on document 01; the comparison holds it to the reference.
+
+const MOST_BLOCKS: usize = 128;
+const MOST_EDGES: usize = 512;
+const MOST_BUDGET: usize = 500;
+const MOST_COPIES: usize = 4096;
+const MOST_BOUNDED_EDGES: usize = 8192;
+const WIDTH: usize = MOST_BUDGET + 1;
+const NONE: u16 = u16::MAX;
+
+/// What a build works in, made once.
+pub struct Workspace {
+    costs: [usize; MOST_BLOCKS + 1],
+    first: [usize; MOST_BLOCKS + 2],
+    targets: [u8; MOST_EDGES],
+    next: [u128; MOST_BLOCKS + 1],
+    has: [u128; WIDTH],
+    lows: Vec<u16>,
+    numbers: Vec<u16>,
+    marks: [[u64; 8]; MOST_BLOCKS + 1],
+    waiting: Vec<(u8, u16)>,
+}
+
+impl Default for Workspace {
+    fn default() -> Self {
+        Workspace {
+            costs: [0; MOST_BLOCKS + 1],
+            first: [0; MOST_BLOCKS + 2],
+            targets: [0; MOST_EDGES],
+            next: [0; MOST_BLOCKS + 1],
+            has: [0; WIDTH],
+            lows: vec![0; MOST_BLOCKS * WIDTH],
+            numbers: vec![0; MOST_BLOCKS * WIDTH],
+            marks: [[0; 8]; MOST_BLOCKS + 1],
+            waiting: Vec::with_capacity(MOST_COPIES + MOST_EDGES),
+        }
+    }
+}
+
+impl Workspace {
+    /// The conditions 1 to 8; under 0 the graph stands in flat rows.
+    fn check(&mut self, sheet: &[u16]) -> u16 {
+        if sheet.len() < 3 {
+            return 1;
+        }
+        let (n, m) = (sheet[0] as usize, sheet[1] as usize);
+        if !(2..=MOST_BLOCKS).contains(&n) || !(1..=MOST_EDGES).contains(&m) {
+            return 2;
+        }
+        if sheet.len() != 3 + 2 * n + 2 * m {
+            return 3;
+        }
+        if sheet[2] as usize > MOST_BUDGET {
+            return 4;
+        }
+        let (blocks, edges) = sheet[3..].split_at(2 * n);
+        if blocks[0] != 0 || blocks[2] != 0 || blocks[4..].chunks_exact(2).any(|record| record[0] == 0) {
+            return 5;
+        }
+        if edges.chunks_exact(2).any(|record| (record[0] as usize) < 2 || record[0] as usize > n) {
+            return 6;
+        }
+        let mut seen = [0u64; MOST_EDGES / 64 + 1];
+        let mut count = 0;
+        for block in 1..=n {
+            self.costs[block] = blocks[2 * block - 2] as usize;
+            self.first[block] = count;
+            let mut mask = 0;
+            let mut edge = blocks[2 * block - 1] as usize;
+            while edge != 0 {
+                if edge > m || seen[edge / 64] >> (edge % 64) & 1 == 1 {
+                    return 7;
+                }
+                seen[edge / 64] |= 1 << (edge % 64);
+                let target = edges[2 * edge - 2];
+                self.targets[count] = target as u8;
+                mask |= 1u128 << (target - 1);
+                count += 1;
+                edge = edges[2 * edge - 1] as usize;
+            }
+            self.next[block] = mask;
+        }
+        self.first[n + 1] = count;
+        if count != m {
+            return 7;
+        }
+        if blocks[3] != 0 {
+            return 8;
+        }
+        0
+    }
+
+    /// The completions, cost by cost, as masks over blocks; then the bytes of the area.
+    fn weigh(&mut self, n: usize, width: usize, area: &mut [u8]) {
+        for cost in 0..width {
+            let mut mask = u128::from(cost == 0) << 1;
+            for block in 3..=n {
+                let own = self.costs[block];
+                if own <= cost && self.has[cost - own] & self.next[block] != 0 {
+                    mask |= 1 << (block - 1);
+                }
+            }
+            self.has[cost] = mask;
+            if mask & self.next[1] != 0 {
+                self.has[cost] |= 1;
+            }
+        }
+        for block in 0..n {
+            for (byte, mask) in area[block * width..(block + 1) * width].iter_mut().zip(&self.has) {
+                *byte = (mask >> block) as u8 & 1;
+            }
+        }
+    }
+
+    fn fill_lows(&mut self, n: usize, width: usize, area: &[u8]) {
+        for block in 0..n {
+            let mut low = NONE;
+            let row = block * width..(block + 1) * width;
+            for (cost, (entry, byte)) in self.lows[row.clone()].iter_mut().zip(&area[row]).enumerate() {
+                if *byte == 1 {
+                    low = cost as u16;
+                }
+                *entry = low;
+            }
+        }
+    }
+
+    /// Marks the copies that are reached; their numbers of copies and edges, or none once there are too many.
+    fn reach(&mut self, n: usize, width: usize) -> Option<(usize, usize)> {
+        self.marks[..=n].fill([0; 8]);
+        self.waiting.clear();
+        let start = self.lows[width - 1];
+        self.marks[1][start as usize / 64] |= 1 << (start % 64);
+        self.waiting.push((1, start));
+        let (mut copies, mut edges) = (1, 0);
+        while let Some((block, low)) = self.waiting.pop() {
+            let left = low as usize - self.costs[block as usize];
+            let targets = &self.targets[self.first[block as usize]..self.first[block as usize + 1]];
+            edges += targets.len();
+            if edges > MOST_BOUNDED_EDGES {
+                return None;
+            }
+            for target in targets {
+                let next = self.lows[(*target as usize - 1) * width + left];
+                if next != NONE {
+                    let word = &mut self.marks[*target as usize][next as usize / 64];
+                    if *word >> (next % 64) & 1 == 0 {
+                        *word |= 1 << (next % 64);
+                        copies += 1;
+                        self.waiting.push((*target, next));
+                    }
+                }
+            }
+            if copies > MOST_COPIES {
+                return None;
+            }
+        }
+        Some((copies, edges))
+    }
+
+    fn write(&mut self, n: usize, width: usize, copies: usize, edges: usize, output: &mut [u16]) {
+        output[0] = copies as u16;
+        output[1] = edges as u16;
+        output[2] = (width - 1) as u16;
+        let (mut at, mut edge, mut number) = (3, 1, 0);
+        for block in 1..=n {
+            let degree = self.first[block + 1] - self.first[block];
+            for (index, mut word) in self.marks[block].into_iter().enumerate() {
+                while word != 0 {
+                    let low = 64 * index + word.trailing_zeros() as usize;
+                    word &= word - 1;
+                    number += 1;
+                    self.numbers[(block - 1) * width + low] = number;
+                    output[at] = block as u16;
+                    output[at + 1] = low as u16;
+                    output[at + 2] = if degree == 0 { 0 } else { edge };
+                    at += 3;
+                    edge += degree as u16;
+                }
+            }
+        }
+        let mut edge = 1;
+        for copy in 0..copies {
+            let (block, low) = (output[3 + 3 * copy] as usize, output[4 + 3 * copy] as usize);
+            let targets = &self.targets[self.first[block]..self.first[block + 1]];
+            let left = low - self.costs[block];
+            for (place, target) in targets.iter().enumerate() {
+                let row = (*target as usize - 1) * width;
+                let next = self.lows[row + left];
+                output[at] = if next == NONE { 0 } else { self.numbers[row + next as usize] };
+                output[at + 1] = if place + 1 == targets.len() { 0 } else { edge + 1 };
+                at += 2;
+                edge += 1;
+            }
+        }
+    }
+
+    /// The build: answer, work area and output row as document 01 has them.
+    pub fn build(&mut self, sheet: &[u16], area: &mut [u8], output: &mut [u16]) -> u16 {
+        let answer = self.check(sheet);
+        if answer != 0 {
+            return answer;
+        }
+        let (n, width) = (sheet[0] as usize, sheet[2] as usize + 1);
+        if area.len() < n * width {
+            return 21;
+        }
+        self.weigh(n, width, area);
+        self.fill_lows(n, width, area);
+        if self.lows[width - 1] == NONE {
+            return 9;
+        }
+        let Some((copies, edges)) = self.reach(n, width) else {
+            return 10;
+        };
+        if output.len() < 3 + 3 * copies + 2 * edges {
+            return 22;
+        }
+        self.write(n, width, copies, edges, output);
+        0
+    }
+}
