@@ -12,7 +12,7 @@ use Rattle.theory.specs.Completions.{lowOf}
 use Rattle.formats.specs.Limits.{mostBlocks, mostBudget}
 use Rattle.formats.specs.GraphSheet.{header, sheetRefusal}
 use Rattle.formats.proofs.Accepted.{accepted, long, blocks, budget-fits}
-use Rattle.calls.specs.SheetGraph.{task, graph}
+use Rattle.calls.specs.SheetGraph.{graph}
 use Rattle.calls.specs.Area.{areaSize, filled, Table}
 use Rattle.calls.specs.Weigh.{taskArea, beforeWeighing, weighed}
 use Rattle.calls.proofs.Weigh.{Passed, weighs-e, spared, late-area}

@@ -25,7 +25,7 @@ use Rattle.formats.specs.Listing.{digits, decimal, line, headingLine, copyLine,
 use Rattle.formats.specs.Catalogue.{sheetsUpTo, sheets}
 use Rattle.formats.specs.Report.{unusedBlocks, refusedAs, figuresLine, refusedLine, sheetLine, plus, sums, totalLine}
 use Rattle.formats.specs.Report.{greater, mostOf, most, mostLine, unusedLine, unusedLines, eachSheet, reportOf}
-use Rattle.calls.specs.SheetGraph.{task, graph, sheetCopies, rowOf, rowsOf, boundedSheet, readBounded}
+use Rattle.calls.specs.SheetGraph.{graph, sheetCopies, rowOf, rowsOf, boundedSheet, readBounded}
 use Rattle.calls.specs.Area.{areaSize, marks, byteOf, bytes, filled}
 use Rattle.calls.specs.Weigh.{taskArea, smallArea, nothingFits, weighOrder, beforeWeighing, areaAfter}
 use Rattle.calls.specs.Build.{tooMany, smallOutput, buildOrder, outputAfter, build}

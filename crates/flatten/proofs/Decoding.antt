@@ -13,12 +13,11 @@ use Rattle.base.specs.Checks.{outside}
 use Rattle.base.proofs.Orders.{inside-of}
 use Rattle.theory.specs.Completions.{Graph}
 use Rattle.theory.specs.Setting.{WellFormed}
-use Rattle.formats.specs.Limits.{mostEdges}
 use Rattle.formats.specs.GraphSheet.{header, costWord, successors, sheetRefusal}
-use Rattle.formats.proofs.Accepted.{Accepted, accepted, blocks, edges}
+use Rattle.formats.proofs.Accepted.{accepted, blocks}
 use Rattle.calls.specs.SheetGraph.{graph}
 use Rattle.calls.proofs.SheetLaws.{well-formed, inside}
-use Rattle.graph_row.specs.GraphRow.{rowWords, blocksIn, costIn, startIn, degreeIn, nextIn, graphIn, Flat}
+use Rattle.graph_row.specs.GraphRow.{rowWords, blocksIn, costIn, startIn, degreeIn, nextIn, graphIn}
 use Rattle.flatten.specs.Decoded.{Decoded, Copied}
 use Rattle.flatten.proofs.Places.{placeOf, place-next, place-first, place-above, place-before, place-most, degree-most}
 

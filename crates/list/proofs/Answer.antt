@@ -18,7 +18,7 @@ use Rattle.formats.specs.BoundedSheet.{sheetWords, heading, boundedLength}
 use Rattle.formats.specs.Rule11.{boundedRefusal}
 use Rattle.formats.proofs.Accepted.{accepted, budget-fits, graph-numbered}
 use Rattle.theory.specs.Tasks.{copiesIn}
-use Rattle.calls.specs.SheetGraph.{task, graph, sheetCopies, rowsOf, boundedSheet}
+use Rattle.calls.specs.SheetGraph.{task, graph, rowsOf, boundedSheet}
 use Rattle.calls.specs.Weigh.{Weighing, taskArea, smallArea, nothingFits, weighOrder}
 use Rattle.calls.specs.Build.{Lent, tooMany, smallOutput, buildOrder, outputAfter, build}
 use Rattle.calls.specs.Program.{listingOrder}
