@@ -10,3 +10,7 @@ pub mod Orders
 pub mod Pigeonhole
 -- a search by a loop over 1 to n: begin, found, onward, none
 pub mod Search
+-- an option as a number: option-none, option-some
+pub mod Options
+-- cells: cell-inside, one-cell
+pub mod Cells

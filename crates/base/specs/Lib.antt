@@ -1,4 +1,5 @@
--- What the theory and the formats share: lists, copies as pairs, orders of refusals.
+-- What the theory and the formats share: lists, copies as pairs, cells, orders of refusals.
 pub mod Lists
 pub mod Copy
+pub mod Cells
 pub mod Checks

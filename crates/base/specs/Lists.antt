@@ -33,6 +33,11 @@ module _ {A : Type 0} where
   chosen xs zero = none
   chosen xs (suc k) = getElem? xs k
 
+-- an option as a number: 0 for none, else one more
+unfoldable pub optionOf : ℕ → Option ℕ
+optionOf zero = none
+optionOf (suc a) = some a
+
 unfoldable pub isNone : {A : Type 0} → Option A → Bool
 isNone none = true
 isNone (some a) = false

@@ -5,16 +5,17 @@ use mathlib.Core.Bool.{Bool, true, false, not}
 use mathlib.Core.List.{List, [], _∷_, _++_, map}
 use Prim.Native.Nat.{ℕ, zero, suc, _+_, _-_, _*_, _≤_, _<_}
 use native.Mathlib.Omega.{arith}
-use native.Mathlib.Nat.{mul-le-mul-right}
 use lib.Dec.{eqb}
 use lib.ListN.{length, getD, take, drop, length-map, length-append, length-drop, List·getD-append}
 use lib.Seq.{getD-append-add, getD-drop, take-at, drop-at}
 use Rattle.base.specs.Lists.{each, from}
 use Rattle.base.specs.Checks.{lentAfter}
 use Rattle.base.proofs.Lists.{from-length}
+use Rattle.base.proofs.Cells.{cell-inside}
 use Rattle.theory.specs.Completions.{Graph, completes}
 use Rattle.calls.specs.SheetGraph.{boundedSheet}
-use Rattle.calls.specs.Area.{cellOf, areaSize, marks, byteOf, bytes, filled, isSet, stands, Table}
+use Rattle.base.specs.Cells.{cellOf, cellCount, isSet}
+use Rattle.calls.specs.Area.{areaSize, marks, byteOf, bytes, filled, stands, HasCell, Table}
 use Rattle.calls.specs.Build.{outputAfter}
 
 -- a cell of one line
@@ -59,13 +60,6 @@ module _ (g : Graph) (n b v c : ℕ) (low : 1 ≤ v) (high : v ≤ n) (most : c 
   pub byte-mark : getD (bytes (marks g n b)) (cellOf b v c) 0 ≡ byteOf (completes g v c)
   byte-mark = bytes-at (marks g n b) (cellOf b v c) ∙ ap byteOf (mark-at g n b v c low high most)
 
-  pub inside : cellOf b v c < n * suc b
-  unfolding cellOf
-  inside =
-      let e : suc (v - 1) ≡ v = omega arith in
-      let l : suc (v - 1) * suc b ≤ n * suc b = rw e (mul-le-mul-right (suc b) high) in
-      omega arith
-
 -- a byte is set where its mark is
 pub set-byte : (m : Bool) → not (eqb (byteOf m) 0) ≡ m
 unfolding byteOf
@@ -87,14 +81,14 @@ marks-length g n b = lines n 1
 
 module _ (g : Graph) (n b : ℕ) (area : List ℕ) (room : areaSize n b ≤ length area) where
   table-length : length (bytes (marks g n b)) ≡ areaSize n b
-  unfolding areaSize bytes
+  unfolding areaSize cellCount bytes
   table-length = length-map (marks g n b) byteOf ∙ marks-length g n b
 
   -- a cell is 1 where its block has its completion cost, else 0
   pub cell-filled : (v c : ℕ) → 1 ≤ v → v ≤ n → c ≤ b → getD (filled g n b area) (cellOf b v c) 0 ≡ byteOf (completes g v c)
   unfolding areaSize filled
   cell-filled v c p q l =
-      let i = inside g n b v c p q l in
+      let i = cell-inside b n v c p q l in
       List·getD-append (bytes (marks g n b)) _ 0 _ (omega (arith, table-length)) ∙ byte-mark g n b v c p q l
 
   -- the rest is untouched, and so is the length
@@ -118,6 +112,17 @@ module _ (g : Graph) (n b : ℕ) (area : List ℕ) (room : areaSize n b ≤ leng
     room = omega (arith, filled-length);
     cells = λ v c p q l. ap (λ (x : ℕ). not (eqb x 0)) (cell-filled v c p q l) ∙ set-byte (completes g v c);
   }
+
+-- A CELL of a block and a cost lies in an area that has room for all
+pub area-cell : (n b v c : ℕ) (area : List ℕ) → 1 ≤ v → v ≤ n → c ≤ b → areaSize n b ≤ length area → HasCell area (cellOf b v c)
+unfolding areaSize
+area-cell n b v c area p q l room = omega (arith, cell-inside b n v c p q l)
+
+-- FILLING: what is made of an area by clearing it and then setting cells; the bytes of its cells are 0 or 1, and the rest is untouched
+pub record Filling (n b : ℕ) (first area : List ℕ) : Type 0 where
+  pub same : length area ≡ length first
+  pub bits : (i : ℕ) → i < areaSize n b → getD area i 0 ≤ 1
+  pub rest : (i : ℕ) → areaSize n b ≤ i → getD area i 0 ≡ getD first i 0
 
 -- THE OUTPUT ROW after an accepted build: its words, and the rest untouched
 pub output-words : (w output : List ℕ) → take (length (boundedSheet w)) (outputAfter w 0 output) ≡ boundedSheet w

@@ -5,6 +5,7 @@ use mathlib.Core.Bool.{true, false}
 use mathlib.Core.List.{List, [], _∷_, _++_, map}
 use Prim.Native.Nat.{ℕ}
 use lib.ListN.{replicate}
+use Rattle.base.specs.Cells.{cellCount}
 use Rattle.base.specs.Lists.{any, all, keep, each, chosen, isNone, from, member, distinct, equal}
 use Rattle.base.specs.Copy.{same, before, isIn, numberFrom}
 use Rattle.base.specs.Checks.{refused, over, numbersOf, numbersBefore, lentAfter, outside}
@@ -52,7 +53,7 @@ unfolding examples paper loop twice least inBytes text lines
     tooShort badLimits wrongLength largeBudget badBlocks badLows badCopyOrder copiesOf notOneOf
     badExit badEdgeOrder badTargetWords boundedOrder boundedRefusal
     wordOf wordsOf oddBytes digits decimal line headingLine copyLine listingOf refusalOf
-    graph sheetCopies rowOf rowsOf boundedSheet areaSize taskArea
+    graph sheetCopies rowOf rowsOf boundedSheet cellCount areaSize taskArea
     smallArea nothingFits weighOrder tooMany smallOutput buildOrder build listingOrder sheetListing listing sheetShown outcome
 starred = refl
 
@@ -68,7 +69,7 @@ unfolding refusals six loop least sparing dear exitChained areaWith inBytes text
     tooShort badLimits wrongLength largeBudget badBlocks badLows badCopyOrder copiesOf notOneOf
     badExit badEdgeOrder badTargetWords boundedOrder boundedRefusal
     wordOf wordsOf oddBytes digits decimal line headingLine copyLine listingOf refusalOf
-    graph sheetCopies rowOf rowsOf boundedSheet readBounded marks byteOf bytes areaSize filled taskArea
+    graph sheetCopies rowOf rowsOf boundedSheet readBounded marks byteOf bytes cellCount areaSize filled taskArea
     smallArea nothingFits weighOrder numbersOf numbersBefore beforeWeighing areaAfter tooMany smallOutput buildOrder outputAfter build
     outOfShape moveOrder moved guardedOrder guardedReply guardedMove boundedMoveOrder boundedMove listingOrder sheetListing listing
     sheetsUpTo sheets unusedBlocks refusedAs figuresLine refusedLine sheetLine plus sums totalLine

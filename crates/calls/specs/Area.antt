@@ -1,21 +1,17 @@
 -- The work area: a byte for each block and each cost up to the budget, block by block (document 01, behind the tables of refusals).
--- Rests on base Lists, theory Completions. Any number of blocks, any budget.
+-- Rests on base Lists and Cells, theory Completions. Any number of blocks, any budget.
 use mathlib.Core.Path.{_≡_}
-use mathlib.Core.Bool.{Bool, true, false, not}
+use mathlib.Core.Bool.{Bool, true, false}
 use mathlib.Core.List.{List, map, _++_}
-use Prim.Native.Nat.{ℕ, suc, _+_, _-_, _*_, _≤_}
-use lib.Dec.{eqb}
-use lib.ListN.{length, getD, drop}
+use Prim.Native.Nat.{ℕ, suc, _≤_, _<_}
+use lib.ListN.{length, drop, set, replicate}
 use Rattle.base.specs.Lists.{each, from}
+use Rattle.base.specs.Cells.{cellOf, cellCount, isSet}
 use Rattle.theory.specs.Completions.{Graph, completes}
 
--- "its byte at (block − 1) × (B + 1) + cost"
-unfoldable pub cellOf : ℕ → ℕ → ℕ → ℕ
-cellOf b v c = (v - 1) * suc b + c
-
--- "N × (B + 1)"
+-- the bytes that an area takes, "N × (B + 1)": one for each cell
 unfoldable pub areaSize : ℕ → ℕ → ℕ
-areaSize n b = n * suc b
+areaSize n b = cellCount n b
 
 -- which of the blocks 1 to n have which of the costs 0 to b as a completion cost
 unfoldable pub marks : Graph → ℕ → ℕ → List Bool
@@ -33,12 +29,21 @@ bytes ms = map byteOf ms
 unfoldable pub filled : Graph → ℕ → ℕ → List ℕ → List ℕ
 filled g n b area = bytes (marks g n b) ++ drop (areaSize n b) area
 
--- WHICH COSTS AN AREA STANDS FOR: whether the cell at i is set, and whether block v has the cost c
-unfoldable pub isSet : List ℕ → ℕ → Bool
-isSet area i = not (eqb (getD area i 0) 0)
-
+-- WHICH COSTS AN AREA STANDS FOR: whether block v has the cost c, by "its byte at (block − 1) × (B + 1) + cost"
 unfoldable pub stands : ℕ → List ℕ → ℕ → ℕ → Bool
 stands b area v c = isSet area (cellOf b v c)
+
+-- the cell at a place lies in an area
+abbrev pub HasCell : List ℕ → ℕ → Type 0
+HasCell area i = i < length area
+
+-- an area with one cell more that is set
+unfoldable pub withCell : List ℕ → ℕ → List ℕ
+withCell area i = set area i 1
+
+-- an area of which no cell is set; the rest is untouched
+unfoldable pub cleared : ℕ → ℕ → List ℕ → List ℕ
+cleared n b area = replicate (areaSize n b) 0 ++ drop (areaSize n b) area
 
 -- an area that stands for the completion costs up to b of the blocks 1 to n
 pub record Table (g : Graph) (n b : ℕ) (area : List ℕ) : Type 0 where

@@ -10,7 +10,7 @@ use Rattle.theory.specs.Completions.{Completion, NoLow}
 use Rattle.theory.specs.Walks.{Walk}
 use Rattle.formats.specs.GraphSheet.{sheetRefusal}
 use Rattle.calls.specs.SheetGraph.{task}
-use Rattle.calls.specs.Area.{cellOf}
+use Rattle.base.specs.Cells.{cellOf}
 use Rattle.calls.specs.Weigh.{Weighing, taskArea, nothingFits, beforeWeighing, weighed}
 use Rattle.calls.specs.Build.{Lent, build}
 use Rattle.calls.specs.Moves.{Move, guardedMove}

@@ -21,12 +21,13 @@ use Rattle.graph_words.specs.Formed.{Formed}
 use Rattle.graph_words.proofs.Formed.{formed-of}
 use Rattle.calls.proofs.Weigh.{some-low}
 use Rattle.calls.specs.SheetGraph.{graph}
-use Rattle.calls.specs.Area.{cellOf}
+use Rattle.base.specs.Cells.{cellOf}
 use Rattle.calls.proofs.SheetLaws.{well-formed, settingAt}
 use Rattle.cells.specs.Cells.{Within}
-use Rattle.cells.proofs.Cells.{cell-inside}
-use Rattle.tables.specs.Tables.{optionOf, sheetCopiesAt}
-use Rattle.tables.proofs.Options.{option-none, option-some}
+use Rattle.base.proofs.Cells.{cell-inside}
+use Rattle.base.specs.Lists.{optionOf}
+use Rattle.tables.specs.Tables.{sheetCopiesAt}
+use Rattle.base.proofs.Options.{option-none, option-some}
 use Rattle.descend.specs.Marks.{Due, AllDue, Ready}
 
 -- the copy of a number that is not 0

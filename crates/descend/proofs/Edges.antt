@@ -13,7 +13,7 @@ use Rattle.base.proofs.Lists.{keep-same, Distinct}
 use Rattle.formats.specs.Limits.{mostBoundedEdges}
 use Rattle.formats.specs.BoundedSheet.{Row, edgeCount}
 use Rattle.calls.specs.SheetGraph.{graph, rowsOf}
-use Rattle.calls.specs.Area.{cellOf}
+use Rattle.base.specs.Cells.{cellOf}
 use Rattle.calls.proofs.SettingRows.{apart}
 use Rattle.tables.specs.Tables.{marked, sheetCopiesAt, Degrees}
 use Rattle.tables.specs.Rows.{sheetRowsAt, sheetRowAt}

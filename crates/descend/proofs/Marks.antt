@@ -15,9 +15,9 @@ use Rattle.base.specs.Copy.{Copy, copyOf}
 use Rattle.formats.specs.GraphSheet.{sheetRefusal}
 use Rattle.formats.proofs.Accepted.{accepted}
 use Rattle.calls.specs.SheetGraph.{graph}
-use Rattle.calls.specs.Area.{cellOf}
+use Rattle.base.specs.Cells.{cellOf}
 use Rattle.calls.proofs.SheetLaws.{well-formed}
-use Rattle.cells.proofs.Cells.{one-cell}
+use Rattle.base.proofs.Cells.{one-cell}
 use Rattle.tables.specs.Tables.{marked, sheetCopiesAt}
 use Rattle.descend.specs.Marks.{Clear, Met, AllMet, Ready, Grown}
 use Rattle.descend.proofs.Copies.{copy-fits}

@@ -9,9 +9,9 @@ use lib.ListN.{length, getD}
 use Rattle.theory.specs.Completions.{lowOf}
 use Rattle.formats.specs.GraphSheet.{header, firstWord, targetWord, nextWord}
 use Rattle.calls.specs.SheetGraph.{graph}
-use Rattle.calls.specs.Area.{cellOf}
+use Rattle.base.specs.Cells.{cellOf}
 use Rattle.cells.specs.Cells.{Within}
-use Rattle.tables.specs.Tables.{optionOf}
+use Rattle.base.specs.Lists.{optionOf}
 use Rattle.chains.specs.Rest.{edgesFrom, targetsFrom, Rest}
 use Rattle.formats.proofs.Chains.{follow-end, follow-out}
 use Rattle.chains.proofs.Rest.{rest-start, rest-on, targets-start, targets-on, edge-fits, is-successor}

@@ -1,3 +1,3 @@
 -- What the contracts below `reach` cite.
--- Rests on theory Completions, formats GraphSheet and BoundedSheet, calls SheetGraph and Area, tables Tables and Rows.
+-- Rests on base, theory, formats Limits, tables.
 pub mod Marks

@@ -1,67 +1,68 @@
--- The marks of a descent over the copies of an accepted sheet within a budget.
--- Rests on base Lists and Copy, theory Completions, formats GraphSheet and BoundedSheet, calls SheetGraph and Area, tables Tables and Rows.
+-- The marks of a descent over the copies of a graph g of the blocks 1 to n, with lows up to b.
+-- Rests on base Copy and Cells, theory Completions, formats Limits, tables Tables and Rows.
 use mathlib.Core.Path.{_≡_}
 use mathlib.Core.Logic.{_⊎_}
-use mathlib.Core.Bool.{true, false}
-use mathlib.Core.List.{List, map, List·Memᴰ}
+use mathlib.Core.Bool.{Bool, true}
+use mathlib.Core.List.{List, List·Memᴰ}
 use mathlib.Core.Option.{Option, some}
 use Prim.Native.Nat.{ℕ, suc, _-_, _≤_}
 use lib.ListN.{length, getD}
-use Rattle.base.specs.Lists.{isNone, keep}
-use Rattle.base.specs.Copy.{copyOf}
-use Rattle.theory.specs.Completions.{lowOf}
+use Rattle.base.specs.Cells.{cellCount}
+use Rattle.base.specs.Copy.{Copy, copyOf}
+use Rattle.theory.specs.Completions.{Graph, completes, lowOf}
 use Rattle.formats.specs.Limits.{mostBudget, mostBoundedEdges}
-use Rattle.formats.specs.GraphSheet.{header, sheetRefusal}
-use Rattle.formats.specs.BoundedSheet.{edgeCount}
-use Rattle.calls.specs.SheetGraph.{graph}
-use Rattle.calls.specs.Area.{areaSize}
-use Rattle.tables.specs.Tables.{Lows, marked, sheetCopiesAt}
-use Rattle.tables.specs.Rows.{sheetRowAt}
+use Rattle.tables.specs.Tables.{Lows, marked, markedCopies}
+use Rattle.tables.specs.Rows.{edgesOf}
 
 -- no mark is set
 unfoldable pub Clear : List ℕ → Type 0
 Clear marks = (i : ℕ) → getD marks i 0 ≡ 0
 
--- the edges of the sheet's copies that are marked
-unfoldable pub edgesMarked : List ℕ → ℕ → List ℕ → ℕ
-edgesMarked w b marks = edgeCount (map (sheetRowAt w b) (keep (λ c. marked b marks (c .block) (c .low)) (sheetCopiesAt w b)))
-
--- one more than the edges that may still come, 0 once there are too many
-unfoldable pub edgesLeft : List ℕ → ℕ → List ℕ → ℕ
-edgesLeft w b marks = suc mostBoundedEdges - edgesMarked w b marks
+-- one more than the edges that may still come beside those of the marked copies, 0 once there are too many
+unfoldable pub edgesLeft : Graph → ℕ → ℕ → List ℕ → ℕ
+edgesLeft g n b marks = suc mostBoundedEdges - edgesOf g (markedCopies n b marks)
 
 -- the copy of v whose low is that of an option, if there is one, is marked
 pub record Met (b : ℕ) (marks : List ℕ) (v : ℕ) (o : Option ℕ) : Type 0 where
   pub is-met : (a : ℕ) → o ≡ some a → marked b marks v a ≡ true
 
-module _ (w : List ℕ) (b : ℕ) where
-  -- it is a copy of the sheet
-  pub record Due (v : ℕ) (o : Option ℕ) : Type 0 where
-    pub is-due : (a : ℕ) → o ≡ some a → List·Memᴰ (copyOf v a) (sheetCopiesAt w b)
+module _ (g : Graph) (b : ℕ) where
+  -- it is a copy: its low is a completion cost up to b
+  pub record Serves (v : ℕ) (o : Option ℕ) : Type 0 where
+    pub cost : (a : ℕ) → o ≡ some a → completes g v a ≡ true
+    pub small : (a : ℕ) → o ≡ some a → a ≤ b
 
-  -- so for the copy that serves r cycles of each successor of v
-  pub record AllDue (v r : ℕ) : Type 0 where
-    pub each-due : (t : ℕ) → List·Memᴰ t (graph w .next v) → Due t (lowOf (graph w) t r)
-
-  -- and it is marked
+  -- the copy that serves r cycles of each successor of v is marked
   pub record AllMet (marks : List ℕ) (v r : ℕ) : Type 0 where
-    pub each-met : (t : ℕ) → List·Memᴰ t (graph w .next v) → Met b marks t (lowOf (graph w) t r)
-
-  -- no copy is marked but those of the sheet
-  pub record Only (marks : List ℕ) : Type 0 where
-    pub is-copy : (v l : ℕ) → 1 ≤ v → l ≤ b → marked b marks v l ≡ true → List·Memᴰ (copyOf v l) (sheetCopiesAt w b)
-
-  -- an accepted sheet that something fits, with its look-up as a row and room for its marks
-  pub record Ready (lows marks : List ℕ) : Type 0 where
-    pub ok : sheetRefusal w ≡ 0
-    pub budget : b ≤ mostBudget
-    pub opens : isNone (lowOf (graph w) 1 b) ≡ false
-    pub table : Lows (graph w) (header w .blocks) b lows
-    pub room : areaSize (header w .blocks) b ≤ length marks
-    pub only : Only marks
+    pub each-met : (t : ℕ) → List·Memᴰ t (g .next v) → Met b marks t (lowOf g t r)
 
   -- marks stay, and a copy that is newly marked has the copies of its edges marked
   pub record Grown (before after : List ℕ) : Type 0 where
     pub grows : (v l : ℕ) → marked b before v l ≡ true → marked b after v l ≡ true
     pub closed : (v l : ℕ) → 1 ≤ v → l ≤ b → marked b after v l ≡ true
-        → (marked b before v l ≡ true) ⊎ AllMet after v (l - graph w .cost v)
+        → (marked b before v l ≡ true) ⊎ AllMet after v (l - g .cost v)
+
+  -- A SET OF COPIES that has with each copy those of its edges
+  pub record Closed (S : Copy → Bool) : Type 0 where
+    pub onward : (v l t a : ℕ) → S (copyOf v l) ≡ true → List·Memᴰ t (g .next v) → lowOf g t (l - g .cost v) ≡ some a → S (copyOf t a) ≡ true
+
+  -- no copy is marked but those of a set
+  pub record Only (S : Copy → Bool) (marks : List ℕ) : Type 0 where
+    pub is-in : (v l : ℕ) → 1 ≤ v → l ≤ b → marked b marks v l ≡ true → S (copyOf v l) ≡ true
+
+  -- NOTHING ELSE IS MARKED: a closed set that has the marked copies before, and the copy of v whose low is that of an option, has those after
+  unfoldable pub FromCopy : ℕ → Option ℕ → List ℕ → List ℕ → Type 0
+  FromCopy v o before after =
+      (S : Copy → Bool) → Closed S → ((a : ℕ) → o ≡ some a → S (copyOf v a) ≡ true) → Only S before → Only S after
+
+  -- the same for the copies that serve r cycles of the successors of v
+  unfoldable pub FromChain : ℕ → ℕ → List ℕ → List ℕ → Type 0
+  FromChain v r before after =
+      (S : Copy → Bool) → Closed S → ((t a : ℕ) → List·Memᴰ t (g .next v) → lowOf g t r ≡ some a → S (copyOf t a) ≡ true)
+      → Only S before → Only S after
+
+-- the look-up as a row, and room for the marks
+pub record Ready (g : Graph) (n b : ℕ) (lows marks : List ℕ) : Type 0 where
+  pub budget : b ≤ mostBudget
+  pub table : Lows (lowOf g) n b lows
+  pub room : cellCount n b ≤ length marks

@@ -1,26 +1,23 @@
 // The descent over the copies: a copy hands on to its chain, the chain to each copy it names; no copy is descended into twice.
-// Rests on graph_words, bounded_words, tables, degrees. The calls are at most two deep for each cycle of the budget. Below the public calls.
+// Rests on graph_row, tables. The calls are at most two deep for each cycle of the budget. Below the public calls.
 ghost use mathlib.Core.Path.{_≡_};
 ghost use mathlib.Core.Bool.{false};
 ghost use Prim.Native.Nat.{suc, _-_, _≤_, _<_};
 ghost use lib.ListN.{length};
-ghost use Rattle.base.specs.Lists.{isNone};
+ghost use Rattle.base.specs.Cells.{cellCount};
+ghost use Rattle.base.specs.Lists.{optionOf, isNone};
 ghost use Rattle.theory.specs.Completions.{lowOf};
+ghost use Rattle.theory.specs.Tasks.{copiesIn};
 ghost use Rattle.formats.specs.Limits.{mostBudget, mostBoundedEdges};
-ghost use Rattle.formats.specs.GraphSheet.{header, sheetRefusal};
-ghost use Rattle.formats.specs.BoundedSheet.{edgeCount};
-ghost use Rattle.calls.specs.SheetGraph.{graph};
-ghost use Rattle.calls.specs.Area.{areaSize};
-ghost use Rattle.tables.specs.Tables.{optionOf, Lows, Exactly, Degrees};
-ghost use Rattle.tables.specs.Rows.{sheetRowsAt};
-ghost use Rattle.descend.specs.Marks.{edgesLeft, Due, Met, AllDue, AllMet, Ready, Grown, Clear};
+ghost use Rattle.tables.specs.Tables.{Lows, markedCopies};
+ghost use Rattle.tables.specs.Rows.{edgesOf};
+ghost use Rattle.graph_row.specs.GraphRow.{blocksIn, graphIn, taskIn, Flat};
+ghost use Rattle.descend.specs.Marks.{Clear, edgesLeft, Met, Serves, AllMet, Grown, FromCopy, FromChain, Ready};
 use bounded_words::MOST_BOUNDED_EDGES;
-use degrees::degree;
-use graph_words::cost_of;
-use graph_words::edges;
-use graph_words::first_of;
-use graph_words::next_of;
-use graph_words::target_of;
+use graph_row::cost_in;
+use graph_row::degree_in;
+use graph_row::start_in;
+use graph_words::word_at;
 use tables::entry;
 use tables::is_marked;
 use tables::mark;
@@ -28,23 +25,22 @@ use tables::mark;
 // One copy of v: x is one more than its low, and 0 for none. left is one more than the edges that may still come, and the answer
 // what is left of it: 0 once there are too many, and then the descent stops.
 fn visit(
-    s: &[u16],
+    row: &[u16],
     lows: &[u16],
-    degrees: &[u16],
     marks: &mut [u8],
     b: usize,
     v: usize,
     x: usize,
     left: usize,
 ) -> usize
-    requires { ⌜ Ready (now s) b (now lows) (now marks) ⌝ }
-    requires { ⌜ Degrees (now s) (now degrees) ⌝ }
-    requires { ⌜ 2 ≤ v ⌝ }
-    requires { ⌜ Due (now s) b v (optionOf x) ⌝ }
-    requires { ⌜ left ≡ edgesLeft (now s) b (now marks) ⌝ }
-    ensures { λ r. ⌜ r ≡ edgesLeft (now (s .entry)) b (now (marks .exit)) ⌝ }
-    ensures { λ r. ⌜ (0 < r → Ready (now (s .entry)) b (now (lows .entry)) (now (marks .exit))) ⌝ }
-    ensures { λ r. ⌜ (0 < r → Grown (now (s .entry)) b (now (marks .entry)) (now (marks .exit))) ⌝ }
+    requires { ⌜ Flat (now row) ⌝ }
+    requires { ⌜ Ready (graphIn (now row)) (blocksIn (now row)) b (now lows) (now marks) ⌝ }
+    requires { ⌜ (2 ≤ v) × (v ≤ blocksIn (now row)) ⌝ }
+    requires { ⌜ Serves (graphIn (now row)) b v (optionOf x) ⌝ }
+    requires { ⌜ left ≡ edgesLeft (graphIn (now row)) (blocksIn (now row)) b (now marks) ⌝ }
+    ensures { λ r. ⌜ r ≡ edgesLeft (graphIn (now (row .entry))) (blocksIn (now (row .entry))) b (now (marks .exit)) ⌝ }
+    ensures { λ _. ⌜ FromCopy (graphIn (now (row .entry))) b v (optionOf x) (now (marks .entry)) (now (marks .exit)) ⌝ }
+    ensures { λ r. ⌜ (0 < r → Grown (graphIn (now (row .entry))) b (now (marks .entry)) (now (marks .exit))) ⌝ }
     ensures { λ r. ⌜ (0 < r → Met b (now (marks .exit)) v (optionOf x)) ⌝ }
 {
     if x == 0 {
@@ -58,78 +54,70 @@ fn visit(
     if v == 2 {
         return left;
     }
-    let d = degree(degrees, v);
+    let d = degree_in(row, v);
     if left <= d {
         return 0;
     }
-    let k = cost_of(s, v);
-    follow(s, lows, degrees, marks, b, v, low - k, left - d)
+    let k = cost_in(row, v);
+    follow(row, lows, marks, b, v, low - k, left - d)
 }
 
 // The chain of v, with the cycles left behind v. left and the answer as for a copy.
 fn follow(
-    s: &[u16],
+    row: &[u16],
     lows: &[u16],
-    degrees: &[u16],
     marks: &mut [u8],
     b: usize,
     v: usize,
     cycles: usize,
     left: usize,
 ) -> usize
-    requires { ⌜ Ready (now s) b (now lows) (now marks) ⌝ }
-    requires { ⌜ Degrees (now s) (now degrees) ⌝ }
-    requires { ⌜ (1 ≤ v) × (v ≤ header (now s) .blocks) × (cycles ≤ b) ⌝ }
-    requires { ⌜ AllDue (now s) b v cycles ⌝ }
-    requires { ⌜ left ≡ edgesLeft (now s) b (now marks) ⌝ }
-    ensures { λ r. ⌜ r ≡ edgesLeft (now (s .entry)) b (now (marks .exit)) ⌝ }
-    ensures { λ r. ⌜ (0 < r → Ready (now (s .entry)) b (now (lows .entry)) (now (marks .exit))) ⌝ }
-    ensures { λ r. ⌜ (0 < r → Grown (now (s .entry)) b (now (marks .entry)) (now (marks .exit))) ⌝ }
-    ensures { λ r. ⌜ (0 < r → AllMet (now (s .entry)) b (now (marks .exit)) v cycles) ⌝ }
+    requires { ⌜ Flat (now row) ⌝ }
+    requires { ⌜ Ready (graphIn (now row)) (blocksIn (now row)) b (now lows) (now marks) ⌝ }
+    requires { ⌜ (1 ≤ v) × (v ≤ blocksIn (now row)) × (cycles ≤ b) ⌝ }
+    requires { ⌜ left ≡ edgesLeft (graphIn (now row)) (blocksIn (now row)) b (now marks) ⌝ }
+    ensures { λ r. ⌜ r ≡ edgesLeft (graphIn (now (row .entry))) (blocksIn (now (row .entry))) b (now (marks .exit)) ⌝ }
+    ensures { λ _. ⌜ FromChain (graphIn (now (row .entry))) b v cycles (now (marks .entry)) (now (marks .exit)) ⌝ }
+    ensures { λ r. ⌜ (0 < r → Grown (graphIn (now (row .entry))) b (now (marks .entry)) (now (marks .exit))) ⌝ }
+    ensures { λ r. ⌜ (0 < r → AllMet (graphIn (now (row .entry))) b (now (marks .exit)) v cycles) ⌝ }
 {
-    let m = edges(s);
-    let mut e = first_of(s, v);
-    let mut k = m + 1;
+    let a = start_in(row, v);
+    let d = degree_in(row, v);
+    let mut i = 0;
     let mut l = left;
-    while 0 < k {
-        if e == 0 {
-            return l;
-        }
-        let t = target_of(s, e);
+    while i < d {
+        let t = word_at(row, a + i);
         let x = entry(lows, b, t, cycles);
-        l = visit(s, lows, degrees, marks, b, t, x, l);
+        l = visit(row, lows, marks, b, t, x, l);
         if l == 0 {
             return 0;
         }
-        e = next_of(s, e);
-        k -= 1;
+        i += 1;
     }
     l
 }
 
-// Marks exactly the copies of the sheet within the budget b, and answers one more than the edges that it has room for beside theirs;
+// Marks exactly the copies within the budget b, and answers one more than the edges that there is room for beside theirs;
 // 0 where they have too many, and then the descent has stopped. The start is no edge's target, so its copy is marked here.
-pub fn reach(s: &[u16], lows: &[u16], degrees: &[u16], marks: &mut [u8], b: usize) -> usize
-    requires { ⌜ sheetRefusal (now s) ≡ 0 ⌝ }
-    requires { ⌜ (b ≤ mostBudget) × (isNone (lowOf (graph (now s)) 1 b) ≡ false) ⌝ }
-    requires { ⌜ Lows (graph (now s)) (header (now s) .blocks) b (now lows) ⌝ }
-    requires { ⌜ areaSize (header (now s) .blocks) b ≤ length (now marks) ⌝ }
+pub fn reach(row: &[u16], lows: &[u16], marks: &mut [u8], b: usize) -> usize
+    requires { ⌜ Flat (now row) ⌝ }
+    requires { ⌜ (b ≤ mostBudget) × (isNone (lowOf (graphIn (now row)) 1 b) ≡ false) ⌝ }
+    requires { ⌜ Lows (lowOf (graphIn (now row))) (blocksIn (now row)) b (now lows) ⌝ }
+    requires { ⌜ cellCount (blocksIn (now row)) b ≤ length (now marks) ⌝ }
     requires { ⌜ Clear (now marks) ⌝ }
-    requires { ⌜ Degrees (now s) (now degrees) ⌝ }
     ensures { λ _. ⌜ length (now (marks .exit)) ≡ length (now (marks .entry)) ⌝ }
-    ensures { λ r. ⌜ r ≡ suc mostBoundedEdges - edgeCount (sheetRowsAt (now (s .entry)) b) ⌝ }
-    ensures { λ r. ⌜ (0 < r → Exactly (now (s .entry)) b (now (marks .exit))) ⌝ }
+    ensures { λ r. ⌜ r ≡ suc mostBoundedEdges - edgesOf (graphIn (now (row .entry))) (copiesIn (taskIn (now (row .entry)) b)) ⌝ }
+    ensures { λ r. ⌜ (0 < r → markedCopies (blocksIn (now (row .entry))) b (now (marks .exit)) ≡ copiesIn (taskIn (now (row .entry)) b)) ⌝ }
 {
     let low = entry(lows, b, 1, b) - 1;
     mark(marks, b, 1, low);
-    let d = degree(degrees, 1);
+    let d = degree_in(row, 1);
     if MOST_BOUNDED_EDGES < d {
         return 0;
     }
     follow(
-        s,
+        row,
         lows,
-        degrees,
         marks,
         b,
         1,

@@ -1,6 +1,6 @@
 -- The limits of document 01, each by one name: graph sheet "Limits: N 2 to 128, E 1 to 512, B 0 to 500", bounded sheet "C 2 to 4,096, F 1 to 8,192".
 -- Rests on nothing.
-use Prim.Native.Nat.{ℕ}
+use Prim.Native.Nat.{ℕ, suc, _*_}
 
 -- N, the number of blocks
 abbrev pub leastBlocks : ℕ
@@ -19,6 +19,10 @@ mostEdges = 512
 -- B, the budget
 abbrev pub mostBudget : ℕ
 mostBudget = 500
+
+-- N × (B + 1): a cell for each block and each number of cycles
+abbrev pub mostCells : ℕ
+mostCells = mostBlocks * suc mostBudget
 
 -- C, the number of copies
 abbrev pub leastCopies : ℕ

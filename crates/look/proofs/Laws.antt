@@ -10,7 +10,7 @@ use Rattle.formats.specs.GraphSheet.{sheetRefusal}
 use Rattle.formats.proofs.Accepted.{accepted}
 use Rattle.calls.specs.SheetGraph.{graph}
 use Rattle.calls.proofs.SheetLaws.{well-formed}
-use Rattle.tables.specs.Tables.{optionOf}
+use Rattle.base.specs.Lists.{optionOf}
 
 module _ (w : List ℕ) (ok : sheetRefusal w ≡ 0) (v r x : ℕ) (e : optionOf x ≡ lowOf (graph w) v r) where
   -- one more than the largest completion cost at or below r

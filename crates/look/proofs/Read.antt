@@ -10,8 +10,9 @@ use native.Mathlib.Nat.{le-refl}
 use lib.ListN.{length}
 use Rattle.theory.specs.Completions.{Graph, completes, largest, lowOf}
 use Rattle.theory.proofs.Completions.{largest-agree}
-use Rattle.calls.specs.Area.{cellOf, stands, Table}
-use Rattle.cells.proofs.Cells.{cell-inside}
+use Rattle.base.specs.Cells.{cellOf}
+use Rattle.calls.specs.Area.{stands, Table}
+use Rattle.base.proofs.Cells.{cell-inside}
 
 -- a block's cells rise with the cost
 pub cell-rises : (b v c r : ℕ) → c ≤ r → cellOf b v c ≤ cellOf b v r

@@ -7,7 +7,7 @@ use Prim.Native.Nat.{ℕ, zero, suc, _+_, _-_, _<_}
 use native.Mathlib.Omega.{arith}
 use native.Mathlib.Numerals.{add-one}
 use Rattle.theory.specs.Completions.{largest}
-use Rattle.tables.specs.Tables.{optionOf}
+use Rattle.base.specs.Lists.{optionOf}
 
 module _ (f : ℕ → Bool) where
   -- the largest number below i that passes

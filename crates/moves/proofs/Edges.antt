@@ -22,7 +22,7 @@ use Rattle.graph_words.proofs.Formed as Graph
 use Rattle.bounded_words.proofs.Formed as Bounded
 use Rattle.formats.proofs.Chains.{follow-end, follow-out, follow-more}
 use Rattle.chains.proofs.Rest.{successors-are}
-use Rattle.tables.specs.Tables.{optionOf}
+use Rattle.base.specs.Lists.{optionOf}
 use Rattle.moves.specs.Edges.{targetFrom, nextFrom, edgesFrom, targetsFrom, Inside}
 
 -- the k-th of a list, from the front

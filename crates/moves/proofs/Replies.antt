@@ -26,8 +26,8 @@ use Rattle.theory.specs.Setting.{WellFormed}
 use Rattle.calls.proofs.SheetLaws.{well-formed}
 use Rattle.calls.proofs.Weigh.{spared}
 use Rattle.look.proofs.Laws.{is-low}
-use Rattle.tables.specs.Tables.{optionOf}
-use Rattle.tables.proofs.Options.{option-none, option-some}
+use Rattle.base.specs.Lists.{optionOf}
+use Rattle.base.proofs.Options.{option-none, option-some}
 
 -- A MACHINE, where the k-th target is x - 1, if any
 module _ {S : Type 0} (m : Machine S ℕ) (s : S) (k : ℕ) where

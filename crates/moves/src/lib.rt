@@ -13,7 +13,7 @@ ghost use Rattle.formats.specs.Rule11.{boundedRefusal};
 ghost use Rattle.calls.specs.SheetGraph.{graph, readBounded};
 ghost use Rattle.calls.specs.Area.{Table};
 ghost use Rattle.calls.specs.Moves.{guardedMove, boundedMove};
-ghost use Rattle.tables.specs.Tables.{optionOf};
+ghost use Rattle.base.specs.Lists.{optionOf};
 ghost use Rattle.walk.specs.Walks.{endOf, walkOf, replyOf};
 ghost use Rattle.moves.specs.Edges.{targetsFrom, Inside};
 use bounded_check::check_bounded;

@@ -21,8 +21,9 @@ use Rattle.theory.proofs.Order.{copies-rise}
 use Rattle.formats.specs.Limits.{wordLimit}
 use Rattle.formats.specs.GraphSheet.{header}
 use Rattle.calls.specs.SheetGraph.{graph}
-use Rattle.calls.specs.Area.{cellOf, areaSize, byteOf, isSet, stands, Table}
-use Rattle.cells.proofs.Cells.{cell-inside, one-cell}
+use Rattle.base.specs.Cells.{cellOf, isSet}
+use Rattle.calls.specs.Area.{areaSize, byteOf, stands, Table}
+use Rattle.base.proofs.Cells.{cell-inside, one-cell}
 use Rattle.tables.specs.Tables.{marked, sheetCopiesAt, Exactly, Numbers}
 use Rattle.number.specs.Scan.{IsCell, markedAt}
 use Rattle.number.specs.Entries.{entryBefore, nextEntry}

@@ -14,7 +14,8 @@ use Rattle.base.specs.Copy.{Copy, copyOf}
 use Rattle.base.proofs.Lists.{from-length}
 use Rattle.theory.specs.Copies.{candidates}
 use Rattle.formats.specs.Limits.{mostBlocks, mostBudget}
-use Rattle.calls.specs.Area.{cellOf, areaSize}
+use Rattle.base.specs.Cells.{cellOf}
+use Rattle.calls.specs.Area.{areaSize}
 use Rattle.number.specs.Scan.{mostCells, IsCell}
 
 -- THE CANDIDATES, line by line

@@ -17,7 +17,8 @@ use Rattle.theory.specs.Copies.{spread, startCopies, candidates, copiesFrom}
 use Rattle.formats.specs.Limits.{mostBudget}
 use Rattle.formats.specs.GraphSheet.{header, sheetRefusal}
 use Rattle.calls.specs.SheetGraph.{graph}
-use Rattle.calls.specs.Area.{cellOf, areaSize}
+use Rattle.base.specs.Cells.{cellOf}
+use Rattle.calls.specs.Area.{areaSize}
 use Rattle.graph_words.proofs.Formed.{formed-of}
 use Rattle.cells.specs.Cells.{Within}
 use Rattle.tables.specs.Tables.{marked, sheetCopiesAt, Exactly}

@@ -1,6 +1,6 @@
--- The rows of a build and of its bounded sheet.
+-- The rows of a build.
 -- Rests on theory, calls.
--- an option as a number: option-none, option-some
-pub mod Options
--- the edges of a copy: row-length
+-- an area that stands for the completion costs is looked up as the graph: low-in, lows-of, numbers-of
+pub mod Tables
+-- the edges of copies: edges-are
 pub mod Rows

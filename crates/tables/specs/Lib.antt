@@ -1,6 +1,8 @@
--- What the rows of a build stand for, and the rows of the bounded sheet.
--- Rests on theory, formats, calls.
--- the rows that a build keeps: Lows, Exactly, Numbers, Degrees
+-- What the rows of a build stand for, and the edges of copies.
+-- Rests on base, theory, calls.
+-- the rows that a build keeps: Lows, marked, Numbers
 pub mod Tables
--- the rows of the bounded sheet within a budget
+-- the cells of a row in order: IsCell, NextMarked
+pub mod Scan
+-- the edges of some copies: edgesOf
 pub mod Rows

@@ -1,15 +1,11 @@
--- The rows of the bounded sheet within a budget.
--- Rests on formats BoundedSheet, calls SheetGraph, tables Tables.
-use mathlib.Core.List.{List}
-use Prim.Native.Nat.{ℕ}
+-- The edges of some copies: each has one for each successor of its block.
+-- Rests on base Copy, theory Completions.
+use mathlib.Core.List.{List, [], _∷_}
+use Prim.Native.Nat.{ℕ, _+_}
+use lib.ListN.{length}
 use Rattle.base.specs.Copy.{Copy}
-use Rattle.formats.specs.BoundedSheet.{Row}
-use Rattle.calls.specs.SheetGraph.{graph, rowOf, rowsOf}
-use Rattle.tables.specs.Tables.{sheetCopiesAt}
+use Rattle.theory.specs.Completions.{Graph}
 
-abbrev pub sheetRowsAt : List ℕ → ℕ → List Row
-sheetRowsAt w b = rowsOf (graph w) (sheetCopiesAt w b)
-
--- the row of a copy among them
-abbrev pub sheetRowAt : List ℕ → ℕ → Copy → Row
-sheetRowAt w b c = rowOf (graph w) (sheetCopiesAt w b) c
+unfoldable pub edgesOf : Graph → List Copy → ℕ
+edgesOf g [] = 0
+edgesOf g (c ∷ cs) = length (g .next (c .block)) + edgesOf g cs

@@ -1,11 +1,13 @@
-// The entries of a build's own rows, placed as the cells of the work area. Below the public calls.
+// The entries of a build's own rows, placed as cells, and the cells of a row in order. Below the public calls.
 // Rests on cells.
 ghost use mathlib.Core.Path.{_≡_};
-ghost use Prim.Native.Nat.{_<_};
+ghost use Prim.Native.Nat.{_<_, _≤_};
 ghost use lib.ListN.{length, getD, set};
-ghost use Rattle.calls.specs.Area.{cellOf};
+ghost use Rattle.base.specs.Cells.{cellOf, cellCount, isSet};
 ghost use Rattle.cells.specs.Cells.{Within};
+ghost use Rattle.formats.specs.Limits.{mostBlocks, mostBudget, mostCells};
 ghost use Rattle.tables.specs.Tables.{marked};
+ghost use Rattle.tables.specs.Scan.{IsCell, NextMarked};
 use cells::place;
 
 // The entry of v and r.
@@ -46,4 +48,54 @@ pub fn mark(marks: &mut [u8], b: usize, v: usize, l: usize)
 {
     let i = place(b, v, l);
     marks[i] = 1;
+}
+
+// THE CELLS IN ORDER
+
+// The number of cells, n × (b + 1).
+pub fn cell_count(n: usize, b: usize) -> usize
+    requires { ⌜ (n ≤ mostBlocks) × (b ≤ mostBudget) ⌝ }
+    ensures { λ r. ⌜ (r ≡ cellCount n b) × (r ≤ mostCells) ⌝ }
+{
+    n * (b + 1)
+}
+
+// A cell as a block and a low.
+pub struct Cell {
+    pub block: usize,
+    pub low: usize,
+}
+
+// The block and the low of the cell at i.
+pub fn cell_at(b: usize, i: usize) -> Cell
+    requires { ⌜ (b ≤ mostBudget) × (i ≤ mostCells) ⌝ }
+    ensures { λ r. ⌜ IsCell b i (r .block) (r .low) ⌝ }
+{
+    Cell {
+        block: i / (b + 1) + 1,
+        low: i % (b + 1),
+    }
+}
+
+// The first marked cell from i on, size where there is none.
+pub fn next_marked(marks: &[u8], size: usize, i: usize) -> usize
+    requires { ⌜ (i ≤ size) × (size ≤ length (now marks)) ⌝ }
+    ensures { λ r. ⌜ NextMarked (now (marks .entry)) size i r ⌝ }
+{
+    let mut j = i;
+    while j < size {
+        if marks[j] != 0 {
+            return j;
+        }
+        j += 1;
+    }
+    size
+}
+
+// Whether the copy at i is marked.
+fn is_marked_at(marks: &[u8], i: usize) -> bool
+    requires { ⌜ i < length (now marks) ⌝ }
+    ensures { λ r. ⌜ r ≡ isSet (now (marks .entry)) i ⌝ }
+{
+    marks[i] != 0
 }

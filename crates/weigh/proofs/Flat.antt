@@ -1,54 +1,18 @@
--- A flat row: the edges of its graph join its blocks, and a block's successors stand one behind the other.
--- Rests on base Orders, graph_row Laws, specs Joined and States.
-use mathlib.Core.Path.{_≡_, refl, sym, ap, subst, _∙_}
-use mathlib.Core.Bool.{Bool, true, false}
-use mathlib.Core.List.{List, _∷_, List·Memᴰ, List·Memᴰ·not-nil}
-use Prim.Native.Nat.{ℕ, suc, _+_, _≤_, _<_}
-use native.Mathlib.Omega.{arith}
-use lib.ListN.{length, getD, drop}
-use Rattle.base.specs.Checks.{outside}
-use Rattle.base.proofs.Orders.{inside-of}
+-- A flat row: the edges of its graph join its blocks.
+-- Rests on graph_row Successors, specs Joined and States.
+use mathlib.Core.List.{List}
+use Prim.Native.Nat.{ℕ, _≤_}
+use lib.ListN.{length}
 use Rattle.formats.specs.Limits.{mostBudget}
 use Rattle.calls.specs.Area.{areaSize}
-use Rattle.graph_row.specs.GraphRow.{blocksIn, startIn, degreeIn, graphIn, Flat}
-use Rattle.graph_row.proofs.Laws.{next-from, target-mem}
+use Rattle.graph_row.specs.GraphRow.{blocksIn, graphIn, Flat}
+use Rattle.graph_row.proofs.Successors.{source-block, successor-fits}
 use Rattle.weigh.specs.Joined.{Joined}
 use Rattle.weigh.specs.States.{Ready}
 
--- what has a successor is a block
-source-block : (row : List ℕ) (u t : ℕ) → List·Memᴰ t (graphIn row .next u) → (1 ≤ u) × (u ≤ blocksIn row)
-unfolding graphIn
-source-block row u t m = go (outside 1 (blocksIn row) u) refl
-  where
-    go : (x : Bool) → outside 1 (blocksIn row) u ≡ x → (1 ≤ u) × (u ≤ blocksIn row)
-    go true e = absurd (List·Memᴰ·not-nil {a = t} (rw (e, graphIn) at m))
-    go false e = inside-of 1 (blocksIn row) u e
-
 pub joined : {row : List ℕ} → Flat row → Joined (graphIn row) (blocksIn row)
-joined {row} F = record {
-  blocks = F .blocks;
-  laws = F .laws;
-  source = source-block row;
-  target = λ u t m. (F .laws .above u t m, F .inside u t m);
-}
+joined {row} F = record { blocks = F .blocks; laws = F .laws; source = source-block row; target = successor-fits F }
 
 pub ready : {row : List ℕ} {b : ℕ} {area : List ℕ} → Flat row → (b ≤ mostBudget) × (areaSize (blocksIn row) b ≤ length area)
     → Ready (graphIn row) (blocksIn row) b area
 ready F p = record { graph = joined F; budget = p .0; room = p .1 }
-
--- THE i-TH SUCCESSOR of u, counted from 0: t stands at a + i
-module _ {row : List ℕ} (F : Flat row) (u : ℕ) (p : (1 ≤ u) × (u ≤ blocksIn row)) {a d : ℕ} (s : a ≡ startIn row u)
-    (e : d ≡ degreeIn row u) (i : ℕ) (l : i < d) where
-  pub next-inside : a + i < length row
-  next-inside = omega (arith, F .ends u (p .0) (p .1))
-
-  module _ {t : ℕ} (q : t ≡ getD row (a + i) 0) where
-    here : getD row (startIn row u + i) 0 ≡ t
-    here = ap (λ (x : ℕ). getD row (x + i) 0) (sym s) ∙ sym q
-
-    pub next-mem : List·Memᴰ t (graphIn row .next u)
-    next-mem = subst (λ (x : ℕ). List·Memᴰ x (graphIn row .next u)) here (target-mem row u (p .0) (p .1) F i (omega arith))
-
-    pub next-left : drop i (graphIn row .next u) ≡ t ∷ drop (suc i) (graphIn row .next u)
-    next-left =
-        next-from row u (p .0) (p .1) F i (omega arith) ∙ ap (λ (x : ℕ). x ∷ drop (suc i) (graphIn row .next u)) here

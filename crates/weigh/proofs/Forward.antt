@@ -12,7 +12,8 @@ use lib.ListN.{getD}
 use Rattle.base.proofs.Truth.{not-both}
 use Rattle.theory.specs.Completions.{Graph, Completion, exit, step, completes}
 use Rattle.theory.proofs.Completions.{completes-sound, completes-complete}
-use Rattle.calls.specs.Area.{cellOf, byteOf, isSet, stands}
+use Rattle.base.specs.Cells.{cellOf, isSet}
+use Rattle.calls.specs.Area.{byteOf, stands}
 use Rattle.weigh.specs.States.{Ready, FairCell, Fair, Wider, Right, Done, Spread, Reached, Passed}
 use Rattle.weigh.proofs.OneCost.{reached-on}
 

@@ -9,7 +9,8 @@ use native.Mathlib.Decide.{ℕ-discrete}
 use lib.ListN.{getD, set}
 use Rattle.theory.specs.Completions.{Graph, step, completes}
 use Rattle.theory.proofs.Completions.{completes-sound, completes-complete}
-use Rattle.calls.specs.Area.{cellOf, byteOf}
+use Rattle.base.specs.Cells.{cellOf}
+use Rattle.calls.specs.Area.{byteOf}
 use Rattle.weigh.specs.Joined.{Joined}
 use Rattle.weigh.specs.Lists.{Lists}
 use Rattle.weigh.specs.States.{Fair, Wider, Reached, Spread}

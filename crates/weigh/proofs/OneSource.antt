@@ -10,9 +10,9 @@ use lib.ListN.{length, getD, set, length-set}
 use lib.Seq.{getD-set-same, getD-set-other}
 use Rattle.theory.specs.Completions.{Graph}
 use Rattle.formats.specs.Limits.{mostBlocks}
-use Rattle.calls.specs.Area.{cellOf}
+use Rattle.base.specs.Cells.{cellOf}
 use Rattle.cells.specs.Cells.{Within}
-use Rattle.cells.proofs.Cells.{one-cell}
+use Rattle.base.proofs.Cells.{one-cell}
 use Rattle.weigh.specs.Lists.{Has, Source, Listing, Pushed}
 use Rattle.weigh.proofs.Lists.{counted, list-place, used-place}
 

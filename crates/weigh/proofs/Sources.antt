@@ -11,7 +11,7 @@ use lib.ListN.{length, getD, drop, replicate, length-replicate}
 use lib.Seq.{drop-length}
 use Rattle.theory.specs.Completions.{Graph}
 use Rattle.formats.specs.Limits.{mostBudget}
-use Rattle.calls.specs.Area.{areaSize}
+use Rattle.base.specs.Cells.{cellCount}
 use Rattle.weigh.specs.Joined.{Joined}
 use Rattle.weigh.specs.Lists.{Has, Listing, Pushed, Sources, Lists}
 
@@ -84,7 +84,7 @@ module _ {g : Graph} {n : ℕ} (G : Joined g n) where
   }
 
   -- NO SOURCE YET
-  pub lists-none : {r : ℕ} {lists : List ℕ} → (n ≤ suc r) × (r ≤ mostBudget) × (areaSize n r ≤ length lists)
+  pub lists-none : {r : ℕ} {lists : List ℕ} → (n ≤ suc r) × (r ≤ mostBudget) × (cellCount n r ≤ length lists)
       → Sources g n r 1 lists (replicate 129 0)
   lists-none p = record {
     listing = record {

@@ -13,9 +13,10 @@ use lib.ListN.{length, getD, set, length-set}
 use lib.Seq.{getD-set-same, getD-set-other}
 use Rattle.theory.specs.Completions.{Graph, exit, completes}
 use Rattle.theory.proofs.Completions.{completes-complete}
-use Rattle.calls.specs.Area.{cellOf, areaSize, byteOf}
+use Rattle.base.specs.Cells.{cellOf, cellCount}
+use Rattle.calls.specs.Area.{areaSize, byteOf}
 use Rattle.cells.specs.Cells.{Within}
-use Rattle.cells.proofs.Cells.{cell-inside, one-cell}
+use Rattle.base.proofs.Cells.{cell-inside, one-cell}
 use Rattle.weigh.specs.States.{Ready, Kept, Cleared, FairCell, Fair}
 use Rattle.weigh.proofs.Cells.{cell, ready-on}
 
@@ -85,7 +86,7 @@ cleared-more {first} {area} {after} {i} C l q = record {
 -- THE EXIT'S CELL ALONE, of m blocks
 module _ {g : Graph} {n b : ℕ} {area : List ℕ} (S : Ready g n b area) {m : ℕ} (i : m ≡ n) where
   size : m * (b + 1) ≡ areaSize n b
-  unfolding areaSize
+  unfolding areaSize cellCount
   size = ap (λ (x : ℕ). x * (b + 1)) i ∙ rw add-one
 
   pub clear-room : m * (b + 1) ≤ length area

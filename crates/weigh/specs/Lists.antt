@@ -1,5 +1,5 @@
 -- The lists of sources: in t's list, of r + 1 places, stand the blocks that t succeeds, each once; how many is counted beside them.
--- Rests on theory Completions, formats Limits, calls Area. A graph g of the blocks 1 to n.
+-- Rests on theory Completions, formats Limits, base Cells. A graph g of the blocks 1 to n.
 use mathlib.Core.Path.{_≡_}
 use mathlib.Core.Bool.{Bool, true, false}
 use mathlib.Core.List.{List, List·Memᴰ}
@@ -7,7 +7,7 @@ use Prim.Native.Nat.{ℕ, suc, _+_, _≤_, _<_}
 use lib.ListN.{length, getD}
 use Rattle.theory.specs.Completions.{Graph}
 use Rattle.formats.specs.Limits.{mostBlocks, mostBudget}
-use Rattle.calls.specs.Area.{cellOf, areaSize}
+use Rattle.base.specs.Cells.{cellOf, cellCount}
 
 -- u stands in t's list
 pub record Has (lists counts : List ℕ) (r t u : ℕ) : Type 0 where
@@ -26,7 +26,7 @@ pub record Listing (g : Graph) (n r top : ℕ) (lists counts : List ℕ) : Type 
   pub inside : (n ≤ mostBlocks) × (n ≤ suc r) × (r ≤ mostBudget)
   pub least : 1 ≤ top
   pub most : top ≤ suc n
-  pub room : areaSize n r ≤ length lists
+  pub room : cellCount n r ≤ length lists
   pub tally : length counts ≡ suc mostBlocks
   pub each : (t i : ℕ) → 1 ≤ t → t ≤ n → i < getD counts t 0 → Source g top t i (getD lists (cellOf r t i) 0)
 

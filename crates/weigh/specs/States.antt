@@ -8,7 +8,8 @@ use Prim.Native.Nat.{ℕ, _+_, _≤_, _<_}
 use lib.ListN.{length, getD}
 use Rattle.theory.specs.Completions.{Graph, completes}
 use Rattle.formats.specs.Limits.{mostBudget}
-use Rattle.calls.specs.Area.{cellOf, areaSize, byteOf}
+use Rattle.base.specs.Cells.{cellOf}
+use Rattle.calls.specs.Area.{areaSize, byteOf}
 use Rattle.weigh.specs.Joined.{Joined}
 
 -- a graph of n blocks, a budget within its limit, and an area with room for both

@@ -8,6 +8,7 @@ ghost use Prim.Native.Nat.{suc, _+_, _≤_, _<_};
 ghost use lib.ListN.{length, getD};
 ghost use Rattle.theory.specs.Completions.{completes};
 ghost use Rattle.formats.specs.Limits.{mostBudget};
+ghost use Rattle.base.specs.Cells.{cellCount};
 ghost use Rattle.calls.specs.Area.{areaSize, filled};
 ghost use Rattle.graph_row.specs.GraphRow.{blocksIn, graphIn, Flat};
 ghost use Rattle.weigh.specs.Lists.{Listing, Pushed, Newest, Sources, Lists};
@@ -230,7 +231,7 @@ fn weigh_costs(row: &[u16], lists: &[u8], counts: &[u8], r: usize, area: &mut [u
 fn weigh_with(row: &[u16], lists: &mut [u8], r: usize, area: &mut [u8], b: usize)
     requires { ⌜ Flat (now row) ⌝ }
     requires { ⌜ Ready (graphIn (now row)) (blocksIn (now row)) b (now area) ⌝ }
-    requires { ⌜ (blocksIn (now row) ≤ suc r) × (r ≤ mostBudget) × (areaSize (blocksIn (now row)) r ≤ length (now lists)) ⌝ }
+    requires { ⌜ (blocksIn (now row) ≤ suc r) × (r ≤ mostBudget) × (cellCount (blocksIn (now row)) r ≤ length (now lists)) ⌝ }
     ensures { λ _. ⌜ now (area .exit) ≡ filled (graphIn (now (row .entry))) (blocksIn (now (row .entry))) b (now (area .entry)) ⌝ }
 {
     let mut counts = [0u8; MOST_BLOCKS + 1];

@@ -21,8 +21,8 @@ use Rattle.calls.specs.Area.{areaSize, filled, Table}
 use Rattle.calls.specs.Weigh.{Weighing, taskArea, smallArea, nothingFits, weighOrder, beforeWeighing, areaAfter, weighed}
 use Rattle.calls.proofs.Weigh.{spared, sheet-early, late-area}
 use Rattle.calls.proofs.Area.{filled-table}
-use Rattle.tables.specs.Tables.{optionOf}
-use Rattle.tables.proofs.Options.{option-none, option-some}
+use Rattle.base.specs.Lists.{optionOf}
+use Rattle.base.proofs.Options.{option-none, option-some}
 use Rattle.base.proofs.Orders.{pick, tested, append-stops, append-passes, over-is}
 
 module _ (w area : List ℕ) where

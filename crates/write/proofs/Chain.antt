@@ -13,10 +13,10 @@ use Rattle.formats.specs.GraphSheet.{header, costWord, firstWord, targetWord, n
 use Rattle.formats.specs.BoundedSheet.{firstEdge, edgeRecords}
 use Rattle.formats.proofs.Accepted.{accepted, target-inside}
 use Rattle.calls.specs.SheetGraph.{graph, rowOf}
-use Rattle.calls.specs.Area.{cellOf}
+use Rattle.base.specs.Cells.{cellOf}
 use Rattle.graph_words.proofs.Formed.{formed-of}
 use Rattle.cells.specs.Cells.{Within}
-use Rattle.cells.proofs.Cells.{cell-inside}
+use Rattle.base.proofs.Cells.{cell-inside}
 use Rattle.tables.specs.Tables.{sheetCopiesAt, Numbers}
 use Rattle.chains.specs.Rest.{edgesFrom, targetsFrom, Rest}
 use Rattle.formats.proofs.Chains.{follow-end, follow-out}

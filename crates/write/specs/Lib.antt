@@ -1,4 +1,6 @@
 -- What the contracts below the public calls cite.
--- Rests on nothing.
+-- Rests on theory, formats, calls, graph_row, tables.
 -- a row with words put into it
 pub mod Put
+-- the marked copies and their rows: Marked, rowsIn
+pub mod Marked

@@ -1,30 +1,32 @@
-// The words of the bounded sheet. Below the public calls.
-// Rests on graph_words, tables, degrees, number; the copies are the marked cells in order.
+// The records of the bounded sheet, for the marked copies in order. Below the public calls.
+// Rests on graph_row, tables.
 ghost use mathlib.Core.Path.{_≡_};
-ghost use mathlib.Core.List.{List, [], _∷_, _++_};
+ghost use mathlib.Core.List.{List, [], _∷_};
 ghost use Prim.Native.Nat.{ℕ, _+_, _*_, _<_, _≤_};
-ghost use lib.ListN.{length, drop};
-ghost use Rattle.base.specs.Copy.{copyOf};
+ghost use lib.ListN.{length};
+ghost use Rattle.base.specs.Copy.{Copy, copyOf};
+ghost use Rattle.base.specs.Cells.{cellCount};
+ghost use Rattle.theory.specs.Completions.{lowOf};
 ghost use Rattle.formats.specs.Limits.{mostBudget, mostCopies, mostBoundedEdges, wordLimit};
-ghost use Rattle.formats.specs.GraphSheet.{header, sheetRefusal};
-ghost use Rattle.formats.specs.BoundedSheet.{firstEdge, edgeRecords, copyWords, edgeWords, edgeCount, sheetWords};
-ghost use Rattle.calls.specs.SheetGraph.{graph};
-ghost use Rattle.tables.specs.Tables.{sheetCopiesAt, Exactly, Numbers, Degrees};
-ghost use Rattle.tables.specs.Rows.{sheetRowsAt, sheetRowAt};
+ghost use Rattle.formats.specs.BoundedSheet.{firstEdge, edgeRecords, copyWords, edgeWords, recordWords};
+ghost use Rattle.calls.specs.SheetGraph.{rowOf, rowsOf};
+ghost use Rattle.tables.specs.Tables.{markedCopies, Numbers};
+ghost use Rattle.tables.specs.Rows.{edgesOf};
+ghost use Rattle.graph_row.specs.GraphRow.{blocksIn, graphIn, Flat};
 ghost use Rattle.write.specs.Put.{putWords};
-use degrees::degree;
-use graph_words::HEADER_WORDS;
-use graph_words::cost_of;
-use graph_words::first_of;
-use graph_words::next_of;
-use graph_words::target_of;
-use number::cell_at;
-use number::cell_count;
-use number::next_marked;
+ghost use Rattle.write.specs.Marked.{Marked, rowsIn};
+use graph_row::blocks_in;
+use graph_row::cost_in;
+use graph_row::degree_in;
+use graph_row::start_in;
+use graph_words::word_at;
+use tables::cell_at;
+use tables::cell_count;
 use tables::entry;
+use tables::next_marked;
 
 // Puts three words.
-fn put_three(out: &mut [u16], at: usize, x: usize, y: usize, z: usize)
+pub fn put_three(out: &mut [u16], at: usize, x: usize, y: usize, z: usize)
     requires { ⌜ (at + 3 ≤ length (now out)) × (x < wordLimit) × (y < wordLimit) × (z < wordLimit) ⌝ }
     ensures { λ _. ⌜ now (out .exit) ≡ putWords (now (out .entry)) at (x ∷ y ∷ z ∷ []) ⌝ }
 {
@@ -52,123 +54,105 @@ fn first_edge(e: usize, d: usize) -> usize
     e
 }
 
-// Puts the copy records behind the header.
-fn write_copies(s: &[u16], degrees: &[u16], marks: &[u8], out: &mut [u16], b: usize)
-    requires { ⌜ sheetRefusal (now s) ≡ 0 ⌝ }
-    requires { ⌜ Degrees (now s) (now degrees) ⌝ }
-    requires { ⌜ b ≤ mostBudget ⌝ }
-    requires { ⌜ Exactly (now s) b (now marks) ⌝ }
-    requires { ⌜ edgeCount (sheetRowsAt (now s) b) ≤ mostBoundedEdges ⌝ }
-    requires { ⌜ 3 + 3 * length (sheetCopiesAt (now s) b) ≤ length (now out) ⌝ }
-    ensures { λ _. ⌜ now (out .exit) ≡ putWords (now (out .entry)) 3 (copyWords 1 (sheetRowsAt (now (s .entry)) b)) ⌝ }
+// Puts the copy records from the word `at` on.
+fn write_copies(row: &[u16], marks: &[u8], out: &mut [u16], b: usize, at: usize)
+    requires { ⌜ Flat (now row) ⌝ }
+    requires { ⌜ Marked (graphIn (now row)) (blocksIn (now row)) b (now marks) ⌝ }
+    requires { ⌜ edgesOf (graphIn (now row)) (markedCopies (blocksIn (now row)) b (now marks)) ≤ mostBoundedEdges ⌝ }
+    requires { ⌜ at + 3 * length (markedCopies (blocksIn (now row)) b (now marks)) ≤ length (now out) ⌝ }
+    ensures { λ _. ⌜ now (out .exit) ≡ putWords (now (out .entry)) at (copyWords 1 (rowsIn (now (row .entry)) b (now (marks .entry)))) ⌝ }
 {
-    let size = cell_count(s, b);
-    let mut at = HEADER_WORDS;
+    let n = blocks_in(row);
+    let size = cell_count(n, b);
+    let mut p = at;
     let mut e = 1;
     let mut i = next_marked(marks, size, 0);
     while i < size {
         let c = cell_at(b, i);
-        let d = degree(degrees, c.block);
+        let d = degree_in(row, c.block);
         let first = first_edge(e, d);
-        put_three(out, at, c.block, c.low, first);
-        at += 3;
+        put_three(out, p, c.block, c.low, first);
+        p += 3;
         e += d;
         i = next_marked(marks, size, i + 1);
     }
 }
 
-// Puts the edge records of the copy of v with the low l, its edges numbered from e, where edge e stands at base + 2 × e.
-// The number behind its last edge.
+// Puts the edge records of the copy of v with the low l, among copies of these numbers, its edges numbered from e; they stand from the
+// word `at` on, so that edge e stands at `at` + 2 × (e − 1). The number behind its last edge.
 fn write_chain(
-    s: &[u16],
-    degrees: &[u16],
+    row: &[u16],
     numbers: &[u16],
     out: &mut [u16],
     b: usize,
     v: usize,
     l: usize,
-    base: usize,
+    at: usize,
     e: usize,
 ) -> usize
-    requires { ⌜ sheetRefusal (now s) ≡ 0 ⌝ }
-    requires { ⌜ Degrees (now s) (now degrees) ⌝ }
-    requires { ⌜ (b ≤ mostBudget) × Numbers (now s) b (now numbers) ⌝ }
-    requires { ⌜ (1 ≤ v) × (v ≤ header (now s) .blocks) × (graph (now s) .cost v ≤ l) × (l ≤ b) ⌝ }
-    requires { ⌜ e + length (graph (now s) .next v) < wordLimit ⌝ }
-    requires { ⌜ base + 2 * (e + length (graph (now s) .next v)) ≤ length (now out) ⌝ }
-    ensures { λ r. ⌜ r ≡ e + length (graph (now (s .entry)) .next v) ⌝ }
-    ensures { λ _. ⌜ now (out .exit) ≡ putWords (now (out .entry)) (base + 2 * e)
-        (edgeRecords e (sheetRowAt (now (s .entry)) b (copyOf v l) .targetWords)) ⌝ }
+    requires { ⌜ Flat (now row) ⌝ }
+    requires { ⌜ (1 ≤ v) × (v ≤ blocksIn (now row)) × (graphIn (now row) .cost v ≤ l) × (l ≤ b) × (b ≤ mostBudget) ⌝ }
+    requires { ⌜ cellCount (blocksIn (now row)) b ≤ length (now numbers) ⌝ }
+    requires { ⌜ (1 ≤ e) × (e + length (graphIn (now row) .next v) < wordLimit) ⌝ }
+    requires { ⌜ at + 2 * (e + length (graphIn (now row) .next v)) ≤ length (now out) + 2 ⌝ }
+    ensures { λ r. ⌜ r ≡ e + length (graphIn (now (row .entry)) .next v) ⌝ }
+    ensures { λ _. ⌜ ((cs : List Copy) → Numbers (lowOf (graphIn (now (row .entry)))) (blocksIn (now (row .entry))) b cs (now (numbers .entry))
+        → now (out .exit) ≡ putWords (now (out .entry)) (at + 2 * (e - 1))
+            (edgeRecords e (rowOf (graphIn (now (row .entry))) cs (copyOf v l) .targetWords))) ⌝ }
 {
-    let left = l - cost_of(s, v);
-    let mut d = degree(degrees, v);
-    let mut y = first_of(s, v);
-    let mut n = e;
-    while 0 < d {
-        let t = target_of(s, y);
+    let left = l - cost_in(row, v);
+    let a = start_in(row, v);
+    let d = degree_in(row, v);
+    let mut i = 0;
+    while i < d {
+        let t = word_at(row, a + i);
         let target = entry(numbers, b, t, left);
-        d -= 1;
-        let next = first_edge(n + 1, d);
-        put_two(out, base + 2 * n, target, next);
-        y = next_of(s, y);
-        n += 1;
+        let n = e + i;
+        i += 1;
+        let next = first_edge(n + 1, d - i);
+        put_two(out, at + 2 * (n - 1), target, next);
     }
-    n
+    e + d
 }
 
-// Puts the edge records behind the copy records.
-fn write_edges(
-    s: &[u16],
-    degrees: &[u16],
-    marks: &[u8],
-    numbers: &[u16],
-    out: &mut [u16],
-    b: usize,
-    copies: usize,
-)
-    requires { ⌜ sheetRefusal (now s) ≡ 0 ⌝ }
-    requires { ⌜ Degrees (now s) (now degrees) ⌝ }
-    requires { ⌜ b ≤ mostBudget ⌝ }
-    requires { ⌜ Exactly (now s) b (now marks) ⌝ }
-    requires { ⌜ Numbers (now s) b (now numbers) ⌝ }
-    requires { ⌜ (copies ≤ mostCopies) × (edgeCount (sheetRowsAt (now s) b) ≤ mostBoundedEdges) ⌝ }
-    requires { ⌜ 3 + 3 * copies + 2 * edgeCount (sheetRowsAt (now s) b) ≤ length (now out) ⌝ }
-    ensures { λ _. ⌜ now (out .exit) ≡ putWords (now (out .entry)) (3 + 3 * copies) (edgeWords 1 (sheetRowsAt (now (s .entry)) b)) ⌝ }
+// Puts the edge records from the word `at` on.
+fn write_edges(row: &[u16], marks: &[u8], numbers: &[u16], out: &mut [u16], b: usize, at: usize)
+    requires { ⌜ Flat (now row) ⌝ }
+    requires { ⌜ Marked (graphIn (now row)) (blocksIn (now row)) b (now marks) ⌝ }
+    requires { ⌜ Numbers (lowOf (graphIn (now row))) (blocksIn (now row)) b (markedCopies (blocksIn (now row)) b (now marks)) (now numbers) ⌝ }
+    requires { ⌜ edgesOf (graphIn (now row)) (markedCopies (blocksIn (now row)) b (now marks)) ≤ mostBoundedEdges ⌝ }
+    requires { ⌜ at + 2 * edgesOf (graphIn (now row)) (markedCopies (blocksIn (now row)) b (now marks)) ≤ length (now out) ⌝ }
+    ensures { λ _. ⌜ now (out .exit) ≡ putWords (now (out .entry)) at (edgeWords 1 (rowsIn (now (row .entry)) b (now (marks .entry)))) ⌝ }
 {
-    let size = cell_count(s, b);
-    let base = 1 + 3 * copies;
+    let n = blocks_in(row);
+    let size = cell_count(n, b);
     let mut e = 1;
     let mut i = next_marked(marks, size, 0);
     while i < size {
         let c = cell_at(b, i);
-        e = write_chain(s, degrees, numbers, out, b, c.block, c.low, base, e);
+        e = write_chain(row, numbers, out, b, c.block, c.low, at, e);
         i = next_marked(marks, size, i + 1);
     }
 }
 
-// Writes the bounded sheet within the budget b, whose copies and edges are counted.
-pub fn write_sheet(
-    s: &[u16],
-    degrees: &[u16],
+// Writes the records of the marked copies, which are counted, from the word `at` on.
+pub fn write_records(
+    row: &[u16],
     marks: &[u8],
     numbers: &[u16],
     out: &mut [u16],
     b: usize,
+    at: usize,
     copies: usize,
-    edges: usize,
 )
-    requires { ⌜ sheetRefusal (now s) ≡ 0 ⌝ }
-    requires { ⌜ Degrees (now s) (now degrees) ⌝ }
-    requires { ⌜ b ≤ mostBudget ⌝ }
-    requires { ⌜ Exactly (now s) b (now marks) ⌝ }
-    requires { ⌜ Numbers (now s) b (now numbers) ⌝ }
-    requires { ⌜ (copies ≡ length (sheetCopiesAt (now s) b)) × (copies ≤ mostCopies) ⌝ }
-    requires { ⌜ (edges ≡ edgeCount (sheetRowsAt (now s) b)) × (edges ≤ mostBoundedEdges) ⌝ }
-    requires { ⌜ length (sheetWords b (sheetRowsAt (now s) b)) ≤ length (now out) ⌝ }
-    ensures { λ _. ⌜ now (out .exit) ≡ sheetWords b (sheetRowsAt (now (s .entry)) b)
-        ++ drop (length (sheetWords b (sheetRowsAt (now (s .entry)) b))) (now (out .entry)) ⌝ }
+    requires { ⌜ Flat (now row) ⌝ }
+    requires { ⌜ Marked (graphIn (now row)) (blocksIn (now row)) b (now marks) ⌝ }
+    requires { ⌜ Numbers (lowOf (graphIn (now row))) (blocksIn (now row)) b (markedCopies (blocksIn (now row)) b (now marks)) (now numbers) ⌝ }
+    requires { ⌜ (copies ≡ length (markedCopies (blocksIn (now row)) b (now marks))) × (copies ≤ mostCopies) ⌝ }
+    requires { ⌜ edgesOf (graphIn (now row)) (markedCopies (blocksIn (now row)) b (now marks)) ≤ mostBoundedEdges ⌝ }
+    requires { ⌜ at + length (recordWords (rowsIn (now row) b (now marks))) ≤ length (now out) ⌝ }
+    ensures { λ _. ⌜ now (out .exit) ≡ putWords (now (out .entry)) at (recordWords (rowsIn (now (row .entry)) b (now (marks .entry)))) ⌝ }
 {
-    put_three(out, 0, copies, edges, b);
-    write_copies(s, degrees, marks, out, b);
-    write_edges(s, degrees, marks, numbers, out, b, copies);
+    write_copies(row, marks, out, b, at);
+    write_edges(row, marks, numbers, out, b, at + 3 * copies);
 }

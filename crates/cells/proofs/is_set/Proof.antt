@@ -3,7 +3,8 @@
 use mathlib.Core.Path.{ap, _∙_}
 use native.Mathlib.Omega.{arith}
 use borrow.Author.Needs.{needs}
-use Rattle.calls.specs.Area.{isSet, stands}
+use Rattle.base.specs.Cells.{isSet}
+use Rattle.calls.specs.Area.{stands}
 use Rattle.cells.proofs.is_set.Statement.{statement}
 use Rattle.cells.proofs.is_set.Tie as tie
 

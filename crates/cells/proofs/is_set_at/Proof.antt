@@ -2,7 +2,7 @@
 -- Rests on calls Area.
 use mathlib.Core.Path.{refl}
 use borrow.Author.Needs.{needs}
-use Rattle.calls.specs.Area.{isSet}
+use Rattle.base.specs.Cells.{isSet}
 use Rattle.cells.proofs.is_set_at.Statement.{statement}
 use Rattle.cells.proofs.is_set_at.Tie as tie
 

@@ -16,7 +16,7 @@ use Rattle.graph_words.proofs.target_of.Reads as target-of
 use Rattle.tables.proofs.entry.Reads as entry
 use Rattle.tables.proofs.is_marked.Reads as is-marked
 use Rattle.tables.proofs.mark.Reads as mark
-use Rattle.tables.proofs.Options.{option-none, option-some}
+use Rattle.base.proofs.Options.{option-none, option-some}
 use Rattle.descend.proofs.Copies.{due-copy, formed, copy-fits, next-due, costs-some, cost-is}
 use Rattle.descend.proofs.Marks.{met-none, met-some, grown-same, exit-met, ready-on, visited}
 use Rattle.descend.proofs.Edges.{copy-edges, exit-edges}

@@ -6,12 +6,13 @@ use Prim.Native.Nat.{ℕ}
 use borrow.Author.Needs.{needs}
 use lib.Dec.{eqb}
 use lib.ListN.{getD}
+use Rattle.base.specs.Cells.{isSet}
 use Rattle.tables.specs.Tables.{marked}
 use Rattle.tables.proofs.is_marked.Statement.{statement}
 use Rattle.tables.proofs.is_marked.Tie as tie
 
 returns : tie.Need-returns
-unfolding marked
+unfolding marked isSet
 returns c = ap (λ (i : ℕ). not (eqb (getD (c .before .before .before .args .marks .now) i 0) 0)) (c .before .place .ensures)
 
 pub is-marked-spec : {M : Type 1} → statement M

@@ -5,7 +5,8 @@ use native.Mathlib.Omega.{arith}
 use borrow.Author.Needs.{needs}
 use Rattle.graph_row.specs.GraphRow.{blocksIn, graphIn}
 use Rattle.graph_row.proofs.Laws.{next-length}
-use Rattle.weigh.proofs.Flat.{joined, next-inside, next-mem, next-left}
+use Rattle.graph_row.proofs.Successors.{next-inside, next-mem, next-left}
+use Rattle.weigh.proofs.Flat.{joined}
 use Rattle.weigh.proofs.Sources.{Listed, listed-none, listed-more, listed-all}
 use Rattle.weigh.proofs.list_source.Statement.{statement}
 use Rattle.weigh.proofs.list_source.Tie as tie

@@ -6,8 +6,9 @@ use mathlib.Core.List.{List}
 use Prim.Native.Nat.{ℕ, suc, _≤_}
 use lib.ListN.{length, getD}
 use Rattle.theory.specs.Completions.{largest}
-use Rattle.calls.specs.Area.{cellOf, stands}
-use Rattle.tables.specs.Tables.{optionOf}
+use Rattle.base.specs.Cells.{cellOf}
+use Rattle.calls.specs.Area.{stands}
+use Rattle.base.specs.Lists.{optionOf}
 
 -- one more than the last cost that is set, after the cost r
 unfoldable pub latest : ℕ → ℕ → Bool → ℕ

@@ -11,9 +11,11 @@ use native.Mathlib.Nat.{mul-le-mul-right}
 use lib.ListN.{length, getD, set, length-set}
 use Rattle.theory.specs.Completions.{Graph, largest, lowOf}
 use Rattle.theory.proofs.Completions.{largest-self, largest-agree}
-use Rattle.calls.specs.Area.{cellOf, areaSize, stands, Table}
-use Rattle.cells.proofs.Cells.{cell-inside}
-use Rattle.tables.specs.Tables.{optionOf, Lows}
+use Rattle.base.specs.Cells.{cellOf}
+use Rattle.calls.specs.Area.{areaSize, stands, Table}
+use Rattle.base.proofs.Cells.{cell-inside}
+use Rattle.base.specs.Lists.{optionOf}
+use Rattle.tables.specs.Tables.{Lows}
 use Rattle.lows.specs.Rows.{latest, Filled, RowFilled}
 use Rattle.lows.proofs.Stored.{stored, others-kept}
 

@@ -1,10 +1,10 @@
 -- An option as a number: what 0 says, and what any other number says.
--- Rests on specs Tables.
+-- Rests on specs Lists.
 use mathlib.Core.Path.{_≡_, refl, sym, ap, _∙_}
 use mathlib.Core.Option.{Option, some, none}
 use Prim.Native.Nat.{ℕ, zero, suc, _-_}
 use native.Mathlib.Omega.{arith}
-use Rattle.tables.specs.Tables.{optionOf}
+use Rattle.base.specs.Lists.{optionOf}
 
 pub option-none : (x : ℕ) {o : Option ℕ} → optionOf x ≡ o → x ≡ 0 → o ≡ none
 unfolding optionOf

@@ -5,8 +5,8 @@ use mathlib.Core.List.{List}
 use Prim.Native.Nat.{ℕ, _≤_, _<_}
 use lib.ListN.{length, getD, set}
 use lib.Seq.{getD-set-same, getD-set-other}
-use Rattle.calls.specs.Area.{cellOf}
-use Rattle.cells.proofs.Cells.{one-cell}
+use Rattle.base.specs.Cells.{cellOf}
+use Rattle.base.proofs.Cells.{one-cell}
 
 module _ (b v c x : ℕ) (old new : List ℕ) (e : new ≡ set old (cellOf b v c) x) where
   pub stored : cellOf b v c < length old → getD new (cellOf b v c) 0 ≡ x

@@ -1,0 +1,27 @@
+-- Cells: each lies inside, and a place belongs to one block and one number.
+-- Rests on specs Cells.
+use mathlib.Core.Path.{_≡_}
+use Prim.Native.Nat.{ℕ, suc, _+_, _-_, _*_, _≤_, _<_}
+use native.Mathlib.Omega.{arith}
+use native.Mathlib.Decide.{decLe}
+use native.Mathlib.Nat.{suc-mul, mul-le-mul-right}
+use Rattle.base.specs.Cells.{cellOf, cellCount}
+
+-- a cell lies inside
+pub cell-inside : (b n v c : ℕ) → 1 ≤ v → v ≤ n → c ≤ b → cellOf b v c < cellCount n b
+unfolding cellOf cellCount
+cell-inside b n v c p q l = omega (arith, suc-mul (v - 1) (suc b), mul-le-mul-right {m = suc (v - 1)} {n = n} (suc b) (omega arith))
+
+-- a place belongs to one block and one number
+earlier : (w i j d f : ℕ) → d < w → i < j → i * w + d < j * w + f
+earlier w i j d f p l = omega (arith, suc-mul i w, mul-le-mul-right {m = suc i} {n = j} w l)
+
+pub one-cell : (b u d v c : ℕ) → 1 ≤ u → 1 ≤ v → d ≤ b → c ≤ b → cellOf b u d ≡ cellOf b v c → (u ≡ v) × (d ≡ c)
+unfolding cellOf
+one-cell b u d v c p q i j e = go (decLe u v) (decLe v u)
+  where
+    go : Dec (u ≤ v) → Dec (v ≤ u) → (u ≡ v) × (d ≡ c)
+    go (yes k) (yes l) =
+        let h : u ≡ v = omega arith in (h, let f : (v - 1) * suc b + d ≡ (v - 1) * suc b + c = rw h at e in omega arith)
+    go (no k) l = absurd (omega (arith, earlier (suc b) (v - 1) (u - 1) c d (omega arith) (omega arith)))
+    go (yes k) (no l) = absurd (omega (arith, earlier (suc b) (u - 1) (v - 1) d c (omega arith) (omega arith)))
