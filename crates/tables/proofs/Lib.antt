@@ -4,3 +4,5 @@
 pub mod Tables
 -- the edges of copies: edges-are
 pub mod Rows
+-- the candidates by their cells: candidate-here, none-past, code-cell, next-low, next-block, cell-block
+pub mod Places

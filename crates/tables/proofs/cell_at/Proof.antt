@@ -1,12 +1,12 @@
--- `number::cell_at` meets its contract.
+-- `tables::cell_at` meets its contract.
 -- Rests on Places.
 use Prim.Native.Nat.{_+_}
 use native.Mathlib.Omega.{arith}
 use native.Mathlib.Nat.{div-le-self}
 use borrow.Author.Needs.{needs}
-use Rattle.number.proofs.Places.{code-cell}
-use Rattle.number.proofs.cell_at.Statement.{statement}
-use Rattle.number.proofs.cell_at.Tie as tie
+use Rattle.tables.proofs.Places.{code-cell}
+use Rattle.tables.proofs.cell_at.Statement.{statement}
+use Rattle.tables.proofs.cell_at.Tie as tie
 
 add-t5 : tie.Need-add-t5
 add-t5 c = omega (arith, div-le-self (c .args .i) (c .args .b + 1))

@@ -1,28 +1,16 @@
--- `number::cell_count` meets its contract.
--- Rests on graph_words Formed, Places.
+-- `tables::cell_count` meets its contract.
+-- Rests on Places.
 use native.Mathlib.Omega.{arith}
 use borrow.Author.Needs.{needs}
-use Rattle.graph_words.proofs.Formed.{formed-of}
-use Rattle.number.proofs.Places.{few-cells, count-code}
-use Rattle.number.proofs.cell_count.Statement.{statement}
-use Rattle.number.proofs.cell_count.Tie as tie
-
-blocks-requires : tie.Need-blocks-requires
-blocks-requires c κs = formed-of _ (c .before .pre .0) .long
+use Rattle.tables.proofs.Places.{few-cells, count-code}
+use Rattle.tables.proofs.cell_count.Statement.{statement}
+use Rattle.tables.proofs.cell_count.Tie as tie
 
 mul-result : tie.Need-mul-result
-mul-result c =
-    let z = c .before .before in
-    omega (arith, few-cells (c .blocks2 .result) (z .args .b) (omega (arith, formed-of _ (z .pre .0) .blocks)) (z .pre .1))
+mul-result c = omega (arith, few-cells (c .args .n) (c .args .b) (c .pre .0) (c .pre .1))
 
 returns : tie.Need-returns
-returns c =
-    let z = c .before .before in (
-      count-code _ _ _ (c .blocks2 .ensures .0),
-      few-cells (c .blocks2 .result) (z .args .b) (omega (arith, formed-of _ (z .pre .0) .blocks)) (z .pre .1),
-    )
+returns c = (count-code _ _, few-cells (c .args .n) (c .args .b) (c .pre .0) (c .pre .1))
 
 pub cell-count-spec : {M : Type 1} → statement M
-cell-count-spec =
-    tie.close
-    (tie.spec blocks-requires (λ c. search needs) mul-result returns)
+cell-count-spec = tie.close (tie.spec (λ c. search needs) mul-result returns)

@@ -1,13 +1,13 @@
--- `number::next_marked` meets its contract. The cells that were passed are clear; the measure is what is left.
+-- `tables::next_marked` meets its contract. The cells that were passed are clear; the measure is what is left.
 -- Rests on specs Scan.
 use mathlib.Core.Path.{_≡_}
 use Prim.Native.Nat.{ℕ, _-_, _≤_, _<_}
 use native.Mathlib.Omega.{arith}
 use borrow.Author.Needs.{needs}
 use lib.ListN.{getD}
-use Rattle.number.proofs.Places.{clear-more}
-use Rattle.number.proofs.next_marked.Statement.{statement}
-use Rattle.number.proofs.next_marked.Tie as tie
+use Rattle.tables.proofs.Places.{clear-more}
+use Rattle.tables.proofs.next_marked.Statement.{statement}
+use Rattle.tables.proofs.next_marked.Tie as tie
 
 abbrev Inv-loop : tie.InvT-loop
 Inv-loop marks size i j₀ j = (i ≤ j) × (j ≤ size) × ((x : ℕ) → i ≤ x → x < j → getD marks x 0 ≡ 0)

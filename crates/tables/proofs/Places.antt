@@ -1,5 +1,5 @@
 -- The candidates by their cells: which copy stands at a cell, and which cell a place is.
--- Rests on base Lists, theory Copies, calls Area.
+-- Rests on base Lists and Cells, theory Copies, specs Scan.
 use mathlib.Core.Path.{_≡_, sym, ap, ap₂, subst, _∙_}
 use mathlib.Core.List.{List, [], _∷_, _++_, map}
 use Prim.Native.Nat.{ℕ, zero, suc, _+_, _-_, _*_, _≤_, _<_, _/_, _%_}
@@ -13,10 +13,9 @@ use Rattle.base.specs.Lists.{each, from}
 use Rattle.base.specs.Copy.{Copy, copyOf}
 use Rattle.base.proofs.Lists.{from-length}
 use Rattle.theory.specs.Copies.{candidates}
-use Rattle.formats.specs.Limits.{mostBlocks, mostBudget}
-use Rattle.base.specs.Cells.{cellOf}
-use Rattle.calls.specs.Area.{areaSize}
-use Rattle.number.specs.Scan.{mostCells, IsCell}
+use Rattle.formats.specs.Limits.{mostBlocks, mostBudget, mostCells}
+use Rattle.base.specs.Cells.{cellOf, cellCount}
+use Rattle.tables.specs.Scan.{IsCell}
 
 -- THE CANDIDATES, line by line
 
@@ -80,8 +79,8 @@ candidate-here n b v l p q s =
     lines-here (suc b) n 1 (v - 1) l (omega arith) (omega arith)
     ∙ ap (λ (x : ℕ). copyOf x l ∷ drop (suc ((v - 1) * suc b + l)) (candidates n b)) e
 
-pub none-past : (n b : ℕ) → drop (areaSize n b) (candidates n b) ≡ []
-unfolding candidates areaSize line
+pub none-past : (n b : ℕ) → drop (cellCount n b) (candidates n b) ≡ []
+unfolding candidates cellCount line
 none-past n b = lines-past (suc b) n 1
 
 -- THE CELL OF A PLACE
@@ -119,9 +118,9 @@ module _ (b r : ℕ) where
   pub low-last : r ≡ b → (r + 1) % (b + 1) ≡ 0
   low-last e = rw e (mod-self (b + 1))
 
--- a cell of the area is that of a block
-pub cell-block : (n b i v l : ℕ) → IsCell b i v l → i < areaSize n b → v ≤ n
-unfolding cellOf areaSize
+-- a cell inside is that of a block
+pub cell-block : (n b i v l : ℕ) → IsCell b i v l → i < cellCount n b → v ≤ n
+unfolding cellOf cellCount
 cell-block n b i v l C h = go (decLe v n)
   where
     go : Dec (v ≤ n) → v ≤ n
@@ -132,9 +131,9 @@ cell-block n b i v l C h = go (decLe v n)
 pub few-cells : (n b : ℕ) → n ≤ mostBlocks → b ≤ mostBudget → n * (b + 1) ≤ mostCells
 few-cells n b p q = mul-le-mul {n₁ = n} {m₁ = b + 1} {n₂ = mostBlocks} {m₂ = suc mostBudget} p (omega arith)
 
-pub count-code : (n b m : ℕ) → m ≡ n → m * (b + 1) ≡ areaSize n b
-unfolding areaSize
-count-code n b m e = rw (e, add-one)
+pub count-code : (n b : ℕ) → n * (b + 1) ≡ cellCount n b
+unfolding cellCount
+count-code n b = rw add-one
 
 -- CELLS THAT ARE CLEAR, one more
 pub clear-more : (m : List ℕ) (i j : ℕ) → ((x : ℕ) → i ≤ x → x < j → getD m x 0 ≡ 0) → getD m j 0 ≡ 0
