@@ -22,7 +22,7 @@ use Rattle.formats.specs.Limits.{mostCopies, mostBoundedEdges, wordLimit}
 use Rattle.formats.specs.GraphSheet.{header, sheetRefusal}
 use Rattle.formats.specs.BoundedSheet.{Row, edgeCount, sheetWords, heading}
 use Rattle.formats.specs.Rule11.{boundedRefusal}
-use Rattle.formats.proofs.Accepted.{Accepted, accepted, blocks, budget-fits}
+use Rattle.formats.proofs.Accepted.{Accepted, accepted}
 use Rattle.formats.proofs.Reading.{laid, counted}
 use Rattle.formats.proofs.RuleKept.{Fits, fits-rule}
 use Rattle.formats.proofs.WordsFit.{words-fit}
@@ -43,7 +43,7 @@ module _ (w : List ℕ) (K : Buildable w) where
   A = accepted w (K .ok)
 
   abbrev pub setting : Setting
-  setting = settingAt w A (header w .budget) (K .start) (K .opens)
+  setting = settingAt (header w) w (A .sound) (header w .budget) (K .start) (K .opens)
 
   abbrev pub entry : Entry setting
   entry = record { budget = header w .budget; named = List·Memᴰ·head refl; low = K .start; fits = K .opens }
@@ -145,9 +145,9 @@ module _ (w : List ℕ) (K : Buildable w) where
       record {
         few = (omega (arith, length-map ds (rowOf (graph w) ds), ap length (ends .1)), K .few);
         edges = (some-edge, K .edges);
-        budget = budget-fits w A;
+        budget = A .budget;
         one = once setting 1 1 first first-place refl only-start;
-        rows = rows-fit setting (blocks w A .1);
+        rows = rows-fit setting (A .sound .form .blocks .1);
       }
 
   pub keeps-rule : boundedRefusal (boundedSheet w) ≡ 0

@@ -36,7 +36,7 @@ none-of (some a) e = absurd (not-both refl (sym e))
 pub nine-is-exact : NineIsExact
 unfolding nothingFits isNone
 nine-is-exact w ok =
-    let L = well-formed w (accepted w ok) in
+    let L = well-formed (header w) w (accepted w ok .sound) in
     let b = header w .budget in
     (λ e. low-none (graph w) L 1 b (none-of (lowOf (graph w) 1 b) e), λ n. ap isNone (no-low (graph w) L n))
 
@@ -65,7 +65,7 @@ module _ (w area : List ℕ) (ok : sheetRefusal w ≡ 0) (room : taskArea (task 
   b = header w .budget
 
   abbrev L : WellFormed (graph w)
-  L = well-formed w (accepted w ok)
+  L = well-formed (header w) w (accepted w ok .sound)
 
   filled-holds : Holds w area (filled (graph w) n b area)
   unfolding taskArea

@@ -14,11 +14,11 @@ use Rattle.theory.specs.Copies.{copyFor, targets, add, join, spread, candidates
 use Rattle.theory.specs.Machines.{taken, replyAt, reply, answers, final}
 use Rattle.theory.specs.Walks.{startAt, endAt, mostMoves, isExit, hasEnded, monitorTake, monitor, boundedTake, boundedWalk}
 use Rattle.formats.specs.Words.{follow, unsound}
-use Rattle.formats.specs.GraphSheet.{header, costWord, firstWord, targetWord, nextWord, chain, met, successors}
+use Rattle.formats.specs.GraphSheet.{header, costWord, chain, met, successors}
 use Rattle.formats.specs.GraphSheet.{short, badCounts, badLength, badBudget, costFits, badCosts, badTargets, badChains, exitChain}
 use Rattle.formats.specs.GraphSheet.{sheetOrder, countOrder}
 use Rattle.formats.specs.BoundedSheet.{firstEdge, edgeRecords, copyWords, edgeWords, edgeCount, sheetWords}
-use Rattle.formats.specs.BoundedSheet.{heading, blockAt, lowAt, firstAt, targetAt, nextAt, copyAt, chainAt, targetsAt}
+use Rattle.formats.specs.BoundedSheet.{heading, copyAt, chainAt, targetsAt}
 use Rattle.formats.specs.Rule11.{tooShort, badLimits, wrongLength, largeBudget, badBlocks, badLows, badCopyOrder, copiesOf, notOneOf}
 use Rattle.formats.specs.Rule11.{badExit, badEdgeOrder, badTargetWords, boundedOrder, boundedRefusal, partOrder}
 use Rattle.formats.specs.File.{wordOf, wordsOf, oddBytes}
@@ -26,7 +26,7 @@ use Rattle.formats.specs.Listing.{digits, decimal, line, headingLine, copyLine,
 use Rattle.formats.specs.Catalogue.{sheetsUpTo, sheets}
 use Rattle.formats.specs.Report.{unusedBlocks, refusedAs, figuresLine, refusedLine, sheetLine, plus, sums, totalLine}
 use Rattle.formats.specs.Report.{greater, mostOf, most, mostLine, unusedLine, unusedLines, eachSheet, reportOf}
-use Rattle.calls.specs.SheetGraph.{graph, sheetCopies, rowOf, rowsOf, boundedSheet, readBounded}
+use Rattle.calls.specs.SheetGraph.{graphAt, sheetCopies, rowOf, rowsOf, boundedSheet, readBounded}
 use Rattle.calls.specs.Area.{areaSize, marks, byteOf, bytes, filled}
 use Rattle.calls.specs.Weigh.{taskArea, smallArea, nothingFits, weighOrder, beforeWeighing, areaAfter}
 use Rattle.calls.specs.Build.{tooMany, smallOutput, buildOrder, outputAfter, build}
@@ -46,14 +46,14 @@ pub starred : Pinned examples
 unfolding examples paper loop twice least inBytes text lines
     any all keep each chosen isNone from member distinct equal same before isIn numberFrom refused over lentAfter outside
     within completes largest lowOf fits copyFor targets add join spread candidates startCopies copiesFrom targetNumber
-    follow unsound header costWord firstWord targetWord nextWord chain met successors
+    follow unsound header costWord chain met successors
     short badCounts badLength badBudget costFits badCosts badTargets badChains exitChain sheetOrder
     firstEdge edgeRecords copyWords edgeWords edgeCount sheetWords
-    heading blockAt lowAt firstAt targetAt nextAt copyAt chainAt targetsAt
+    heading copyAt chainAt targetsAt
     tooShort badLimits wrongLength largeBudget badBlocks badLows badCopyOrder copiesOf notOneOf
     badExit badEdgeOrder badTargetWords boundedOrder boundedRefusal
     wordOf wordsOf oddBytes digits decimal line headingLine copyLine listingOf refusalOf
-    graph sheetCopies rowOf rowsOf boundedSheet cellCount areaSize taskArea
+    graphAt sheetCopies rowOf rowsOf boundedSheet cellCount areaSize taskArea
     smallArea nothingFits weighOrder tooMany smallOutput buildOrder build listingOrder sheetListing listing sheetShown outcome
 starred = refl
 
@@ -62,14 +62,14 @@ unfolding refusals six loop least sparing dear exitChained areaWith inBytes text
     any all keep each chosen isNone from member distinct equal same before isIn numberFrom refused over lentAfter outside
     within completes largest lowOf fits copyFor targets add join spread candidates startCopies copiesFrom targetNumber
     taken replyAt reply answers final startAt endAt mostMoves isExit hasEnded monitorTake monitor boundedTake boundedWalk
-    follow unsound header costWord firstWord targetWord nextWord chain met successors
+    follow unsound header costWord chain met successors
     short badCounts badLength badBudget costFits badCosts badTargets badChains exitChain sheetOrder
     firstEdge edgeRecords copyWords edgeWords edgeCount sheetWords
-    heading blockAt lowAt firstAt targetAt nextAt copyAt chainAt targetsAt
+    heading copyAt chainAt targetsAt
     tooShort badLimits wrongLength largeBudget badBlocks badLows badCopyOrder copiesOf notOneOf
     badExit badEdgeOrder badTargetWords boundedOrder boundedRefusal
     wordOf wordsOf oddBytes digits decimal line headingLine copyLine listingOf refusalOf
-    graph sheetCopies rowOf rowsOf boundedSheet readBounded marks byteOf bytes cellCount areaSize filled taskArea
+    graphAt sheetCopies rowOf rowsOf boundedSheet readBounded marks byteOf bytes cellCount areaSize filled taskArea
     smallArea nothingFits weighOrder numbersOf numbersBefore beforeWeighing areaAfter tooMany smallOutput buildOrder outputAfter build
     outOfShape moveOrder moved guardedOrder guardedReply guardedMove boundedMoveOrder boundedMove listingOrder sheetListing listing
     sheetsUpTo sheets unusedBlocks refusedAs figuresLine refusedLine sheetLine plus sums totalLine

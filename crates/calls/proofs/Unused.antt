@@ -20,7 +20,7 @@ use Rattle.formats.specs.Limits.{mostCopies, mostBoundedEdges}
 use Rattle.formats.specs.GraphSheet.{header, sheetOrder, sheetRefusal}
 use Rattle.formats.specs.BoundedSheet.{heading, blockAt, copyAt}
 use Rattle.formats.specs.Report.{copyBlocks, unusedBlocks, refusedAs}
-use Rattle.formats.proofs.Accepted.{accepted, blocks, graph-numbered}
+use Rattle.formats.proofs.Accepted.{accepted, graph-numbered}
 use Rattle.calls.specs.SheetGraph.{graph, sheetCopies, boundedSheet}
 use Rattle.calls.specs.Weigh.{nothingFits}
 use Rattle.calls.specs.Build.{tooMany}
@@ -54,7 +54,7 @@ listed w e =
 pub some-figures : (w : List ℕ) → refused listingOrder w ≡ 0 → (1 ≤ header w .blocks) × (1 ≤ heading (boundedSheet w) .copies)
 some-figures w e =
     let K = listed w e in
-    omega (arith, blocks w (accepted w (K .ok)), demand2 w K .two)
+    omega (arith, accepted w (K .ok) .sound .form .blocks, demand2 w K .two)
 
 -- THE UNUSED BLOCKS
 

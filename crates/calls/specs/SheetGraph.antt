@@ -7,12 +7,15 @@ use Rattle.theory.specs.Completions.{Graph}
 use Rattle.theory.specs.Copies.{targets, targetNumber}
 use Rattle.theory.specs.Tasks.{Task, taskAt, copiesIn}
 use Rattle.theory.specs.Walks.{Bounded}
-use Rattle.formats.specs.GraphSheet.{header, costWord, successors}
+use Rattle.formats.specs.GraphSheet.{Header, header, costWord, successors}
 use Rattle.formats.specs.BoundedSheet.{Row, sheetWords, heading, blockAt, targetsAt}
 
--- the graph of a graph sheet
-unfoldable pub graph : List ℕ → Graph
-graph w = record { cost = costWord (header w) w; next = successors (header w) w }
+-- the graph of a graph sheet's records, behind any header, and of the sheet
+unfoldable pub graphAt : Header → List ℕ → Graph
+graphAt h w = record { cost = costWord h w; next = successors h w }
+
+abbrev pub graph : List ℕ → Graph
+graph w = graphAt (header w) w
 
 -- THE TASK of a graph sheet: how words make one stands here alone
 abbrev pub task : List ℕ → Task

@@ -1,9 +1,9 @@
--- What the conditions 1 to 8 give of a graph sheet that is answered 0: one law for each fact.
+-- What the conditions 1 to 8 give of a graph sheet that is answered 0, behind any header: one law for each fact.
 -- Rests on base Truth, Lists, Orders and Pigeonhole, Chains.
 use mathlib.Core.Path.{_≡_, refl, sym, ap, subst, _∙_}
 use mathlib.Core.Bool.{Bool, true, false, not}
 use mathlib.Core.List.{List, [], map, List·Memᴰ, List·Memᴰ·not-nil, Memᴰ·of-map}
-use Prim.Native.Nat.{ℕ, suc, _+_, _-_, _*_, _≤_}
+use Prim.Native.Nat.{ℕ, suc, _+_, _≤_}
 use native.Mathlib.Omega.{arith}
 use borrow.Author.Tests.{ltb-true, ltb-false, eqb-true, not-false, lt-ltb, le-ltb}
 use lib.Dec.{ltb}
@@ -14,76 +14,57 @@ use Rattle.base.proofs.Truth.{or-false, all-e, any-false}
 use Rattle.base.proofs.Lists.{from-i, each-i, each-e, Distinct, distinct-part}
 use Rattle.base.proofs.Orders.{Numbered, unrefused, inside-of, not-outside}
 use Rattle.base.proofs.Pigeonhole.{distinct-e, pigeonhole}
-use Rattle.formats.specs.Words.{word, follow, unsound}
-use Rattle.formats.specs.Limits.{leastBlocks, mostBlocks, leastEdges, mostEdges, mostBudget}
+use Rattle.formats.specs.Words.{field, follow, unsound}
+use Rattle.formats.specs.Limits.{leastWords, leastBlocks, mostBlocks, leastEdges, mostEdges, mostBudget}
 use Rattle.formats.specs.GraphSheet.{Header, header, sheetLength, costWord, firstWord, targetWord, nextWord, chain, met, successors}
 use Rattle.formats.specs.GraphSheet.{short, badCounts, badLength, badBudget, costFits, badCosts, badTargets, badChains, exitChain}
-use Rattle.formats.specs.GraphSheet.{sheetOrder, sheetRefusal, successorCount}
+use Rattle.formats.specs.GraphSheet.{sheetOrder, sheetRefusal, successorCount, Formed, Sound}
 use Rattle.formats.proofs.Chains.{follow-above, chain-length-is, follow-ends}
 
 -- a block's cost stands in its record
-pub cost-word : (h : Header) (w : List ℕ) (v : ℕ) → 1 ≤ v → v ≤ h .blocks → costWord h w v ≡ word w (h .records + 2 * (v - 1))
+pub cost-word : (h : Header) (w : List ℕ) (v : ℕ) → 1 ≤ v → v ≤ h .blocks → costWord h w v ≡ field w (h .records) 2 v 0
 unfolding costWord
 cost-word h w v p q = rw (not-outside 1 (h .blocks) v p q, costWord)
 
--- no condition holds
+-- 2 and 3 give the form
+pub formed : (h : Header) (w : List ℕ) → badCounts h w ≡ false → badLength h w ≡ false → Formed h w
+unfolding badCounts badLength
+formed h w c l = record {
+  blocks = inside-of leastBlocks mostBlocks (h .blocks) (or-false _ _ c .0);
+  edges = inside-of leastEdges mostEdges (h .edges) (or-false (outside leastBlocks mostBlocks (h .blocks)) _ c .1);
+  size = eqb-true (length w) (sheetLength h) (not-false _ l);
+}
+
+-- A SHEET THAT IS ACCEPTED: a header that is there, a budget within its limit, and sound records
 pub record Accepted (w : List ℕ) : Type 0 where
-  pub not-short : short w ≡ false
-  pub counts : badCounts w ≡ false
-  pub size : badLength w ≡ false
-  pub budget : badBudget w ≡ false
-  pub costs : badCosts w ≡ false
-  pub targets : badTargets w ≡ false
-  pub chains : badChains w ≡ false
-  pub exit : exitChain w ≡ false
+  pub long : leastWords ≤ length w
+  pub budget : header w .budget ≤ mostBudget
+  pub sound : Sound (header w) w
 
 pub accepted : (w : List ℕ) → sheetRefusal w ≡ 0 → Accepted w
-unfolding sheetRefusal sheetOrder
+unfolding sheetRefusal sheetOrder short badBudget
 accepted w e =
     let a₁ = unrefused 0 short _ w e in
-    let a₂ = unrefused 1 badCounts _ w (a₁ .1) in
-    let a₃ = unrefused 2 badLength _ w (a₂ .1) in
-    let a₄ = unrefused 3 badBudget _ w (a₃ .1) in
-    let a₅ = unrefused 4 badCosts _ w (a₄ .1) in
-    let a₆ = unrefused 5 badTargets _ w (a₅ .1) in
-    let a₇ = unrefused 6 badChains _ w (a₆ .1) in
-    let a₈ = unrefused 7 exitChain _ w (a₇ .1) in
+    let a₂ = unrefused 1 _ _ w (a₁ .1) in
+    let a₃ = unrefused 2 _ _ w (a₂ .1) in
+    let a₄ = unrefused 3 _ _ w (a₃ .1) in
+    let a₅ = unrefused 4 _ _ w (a₄ .1) in
+    let a₆ = unrefused 5 _ _ w (a₅ .1) in
+    let a₇ = unrefused 6 _ _ w (a₆ .1) in
+    let a₈ = unrefused 7 _ _ w (a₇ .1) in
     record {
-      not-short = a₁ .0;
-      counts = a₂ .0;
-      size = a₃ .0;
-      budget = a₄ .0;
-      costs = a₅ .0;
-      targets = a₆ .0;
-      chains = a₇ .0;
-      exit = a₈ .0;
+      long = ltb-false (length w) leastWords (a₁ .0);
+      budget = ltb-false mostBudget (header w .budget) (a₄ .0);
+      sound = record {
+        form = formed (header w) w (a₂ .0) (a₃ .0);
+        costs = a₅ .0;
+        targets = a₆ .0;
+        chains = a₇ .0;
+        exit = a₈ .0;
+      };
     }
 
-module _ (w : List ℕ) (A : Accepted w) where
-  abbrev h : Header
-  h = header w
-
-  -- 1 to 4
-  pub long : 3 ≤ length w
-  unfolding short header
-  long = ltb-false (length w) 3 (A .not-short)
-
-  pub blocks : (leastBlocks ≤ h .blocks) × (h .blocks ≤ mostBlocks)
-  unfolding badCounts
-  blocks = inside-of leastBlocks mostBlocks (h .blocks) (or-false _ _ (A .counts) .0)
-
-  pub edges : (leastEdges ≤ h .edges) × (h .edges ≤ mostEdges)
-  unfolding badCounts
-  edges = inside-of leastEdges mostEdges (h .edges) (or-false (outside leastBlocks mostBlocks (h .blocks)) _ (A .counts) .1)
-
-  pub size : length w ≡ sheetLength h
-  unfolding badLength
-  size = eqb-true (length w) (sheetLength h) (not-false _ (A .size))
-
-  pub budget-fits : h .budget ≤ mostBudget
-  unfolding badBudget
-  budget-fits = ltb-false mostBudget (h .budget) (A .budget)
-
+module _ (h : Header) (w : List ℕ) (A : Sound h w) where
   -- 5
   cost-fits : (v : ℕ) → 1 ≤ v → v ≤ h .blocks → costFits v (costWord h w v) ≡ true
   unfolding badCosts
@@ -93,7 +74,7 @@ module _ (w : List ℕ) (A : Accepted w) where
   pub free : (v : ℕ) → 1 ≤ v → v ≤ 2 → costWord h w v ≡ 0
   unfolding costFits
   free v p q =
-      let s : ltb v 3 ≡ true = below in eqb-true _ 0 (rw (s, costFits) at (cost-fits v p (omega (arith, blocks))))
+      let s : ltb v 3 ≡ true = below in eqb-true _ 0 (rw (s, costFits) at (cost-fits v p (omega (arith, A .form .blocks))))
     where
       below : ltb v 3 ≡ true
       below = lt-ltb v 3 (omega arith)

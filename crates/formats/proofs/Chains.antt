@@ -1,12 +1,12 @@
 -- Chains of records: their numbers, their length, and that a chain shorter than its fuel has come to its end.
 -- Rests on specs Words.
-use mathlib.Core.Path.{_≡_, refl, sym, ap, _∙_}
+use mathlib.Core.Path.{_≡_, refl, sym, ap, subst, _∙_}
 use mathlib.Core.Logic.{⊎-elim}
-use mathlib.Core.List.{List, [], _∷_, List·Memᴰ, List·Memᴰ·not-nil, List·Memᴰ·cases-cons}
+use mathlib.Core.List.{List, [], _∷_, List·Memᴰ, List·Memᴰ·head, List·Memᴰ·tail, List·Memᴰ·not-nil, List·Memᴰ·cases-cons}
 use Prim.Native.Nat.{ℕ, zero, suc, _+_, _-_, _≤_, _<_}
 use native.Mathlib.Omega.{arith}
 use lib.ListN.{length}
-use Rattle.formats.specs.Words.{follow, chainLength}
+use Rattle.formats.specs.Words.{follow, chainLength, Inside}
 
 module _ (next : ℕ → ℕ) where
   -- the numbers of a chain are no zeros
@@ -55,3 +55,16 @@ module _ (next : ℕ → ℕ) where
   pub length-more : (k e : ℕ) → 0 < k → (e ≡ 0 → ⊥) → chainLength next k e ≡ suc (chainLength next (k - 1) (next e))
   length-more k e p n =
       chain-length-is k e ∙ ap length (follow-more k e p n) ∙ ap suc (sym (chain-length-is (k - 1) (next e)))
+
+  -- A CHAIN INSIDE: no number above m is met on it
+  module _ {m k e : ℕ} (I : Inside next m k e) (p : 0 < k) (n : e ≡ 0 → ⊥) where
+    members : (x : ℕ) → List·Memᴰ x (e ∷ follow next (k - 1) (next e)) → x ≤ m
+    members x i = I .is-inside x (subst (List·Memᴰ x) (sym (follow-more k e p n)) i)
+
+    -- the record is one of 1 to m
+    pub inside-here : (1 ≤ e) × (e ≤ m)
+    inside-here = (omega arith, members e (List·Memᴰ·head refl))
+
+    -- and so are those behind it
+    pub inside-next : {x : ℕ} → x ≡ next e → Inside next m (k - 1) x
+    inside-next q = rw q (record { is-inside = λ x i. members x (List·Memᴰ·tail i) })

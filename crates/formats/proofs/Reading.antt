@@ -87,11 +87,9 @@ splits e (x ∷ rs) (suc (suc i)) r q =
       after = omega (arith, h .after);
     }
 
-two : (w : List ℕ) (i x y : ℕ) (l : List ℕ) → drop i w ≡ x ∷ y ∷ l → (word w i ≡ x) × (word w (i + 1) ≡ y) × (drop (i + 2) w ≡ l)
+two : (w : List ℕ) (i x y : ℕ) (l : List ℕ) → drop i w ≡ x ∷ y ∷ l → (word w (i + 0) ≡ x) × (word w (i + 1) ≡ y) × (drop (i + 2) w ≡ l)
 two w i x y l e =
-    let p : i + 0 ≡ i = omega arith in
-    let a = sym (getD-drop i w 0 0) ∙ ap (λ z. word z 0) e in
-    (rw p at a, sym (getD-drop i w 1 0) ∙ ap (λ z. word z 1) e, sym (drop-drop 2 i w) ∙ ap (drop 2) e)
+    (sym (getD-drop i w 0 0) ∙ ap (λ z. word z 0) e, sym (getD-drop i w 1 0) ∙ ap (λ z. word z 1) e, sym (drop-drop 2 i w) ∙ ap (drop 2) e)
 
 -- a chain reads as the edges and the targets that it was written from
 module _ (h : Heading) (w : List ℕ) where
@@ -101,7 +99,7 @@ module _ (h : Heading) (w : List ℕ) where
 
   chain-reads : (ts rest : List ℕ) (k e : ℕ) → length ts ≤ k → drop (edgePlace (suc e)) w ≡ edgeRecords (suc e) ts ++ rest
       → (follow (nextAt h w) k (firstEdge (suc e) ts) ≡ from (suc e) (length ts)) × (map (targetAt h w) (from (suc e) (length ts)) ≡ ts)
-  unfolding follow firstEdge edgeRecords targetAt nextAt from
+  unfolding follow firstEdge edgeRecords from
   chain-reads [] rest zero e l d = (refl, refl)
   chain-reads [] rest (suc k) e l d = (refl, refl)
   chain-reads (t ∷ ts) rest zero e l d = absurd (omega arith)
@@ -156,7 +154,7 @@ module _ (h : Heading) (w : List ℕ) (rs : List Row) (L : Laid h w rs) where
       rw (L .words, p) (drop-append-add (L .front) (c ++ edgeWords 1 rs) (length c + j) ∙ drop-append-add c (edgeWords 1 rs) j)
 
   pub reads : (i : ℕ) (r : Row) → chosen rs i ≡ some r → Reads h w rs i r
-  unfolding blockAt lowAt firstAt chainAt targetsAt
+  unfolding chainAt targetsAt
   reads i r q =
       let m = chosen-le rs i r q in
       let v = written 1 rs i r q in
@@ -170,7 +168,7 @@ module _ (h : Heading) (w : List ℕ) (rs : List Row) (L : Laid h w rs) where
       (length (r .targetWords))
       = ap (follow (nextAt h w) (suc (h .edges))) first ∙ c .0 in
       record {
-        block = in-copies (3 * (i - 1)) _ refl (omega (arith, m)) ∙ v .at-block;
+        block = in-copies (3 * (i - 1)) _ (omega arith) (omega (arith, m)) ∙ v .at-block;
         low = in-copies (3 * (i - 1) + 1) _ (omega arith) (omega (arith, m)) ∙ v .at-low;
         first = first;
         chain = chain;

@@ -14,17 +14,18 @@ use Rattle.formats.proofs.Reading.{edgePlace}
 
 -- WORDS FROM A PLACE ON
 
-two-words : (s : List ℕ) (n : ℕ) → n + 2 ≤ length s → drop n s ≡ word s n ∷ word s (n + 1) ∷ drop (n + 2) s
+two-words : (s : List ℕ) (n : ℕ) → n + 2 ≤ length s → drop n s ≡ word s (n + 0) ∷ word s (n + 1) ∷ drop (n + 2) s
 two-words s n l =
     let p : n + 1 ≡ suc n = omega arith in
     let q : n + 2 ≡ suc (suc n) = omega arith in
-    rw (p, q) (drop-cons s n 0 (omega arith) ∙ ap (λ (l : List ℕ). word s n ∷ l) (drop-cons s (suc n) 0 (omega arith)))
+    let z : n + 0 ≡ n = omega arith in
+    rw (z, p, q) (drop-cons s n 0 (omega arith) ∙ ap (λ (l : List ℕ). word s n ∷ l) (drop-cons s (suc n) 0 (omega arith)))
 
-pub three-words : (s : List ℕ) (n : ℕ) → n + 3 ≤ length s → drop n s ≡ word s n ∷ word s (n + 1) ∷ word s (n + 2) ∷ drop (n + 3) s
+pub three-words : (s : List ℕ) (n : ℕ) → n + 3 ≤ length s → drop n s ≡ word s (n + 0) ∷ word s (n + 1) ∷ word s (n + 2) ∷ drop (n + 3) s
 three-words s n l =
     let q : n + 2 ≡ suc (suc n) = omega arith in
     let r : n + 3 ≡ suc (suc (suc n)) = omega arith in
-    two-words s n (omega arith) ∙ ap (λ (l : List ℕ). word s n ∷ word s (n + 1) ∷ l) (rw (q, r) (drop-cons s (suc (suc n)) 0 (omega arith)))
+    two-words s n (omega arith) ∙ ap (λ (l : List ℕ). word s (n + 0) ∷ word s (n + 1) ∷ l) (rw (q, r) (drop-cons s (suc (suc n)) 0 (omega arith)))
 
 -- consecutive numbers fall apart into consecutive numbers
 record Parts (a m : ℕ) (xs ys : List ℕ) : Type 0 where
@@ -62,7 +63,7 @@ module _ (h : Heading) (s : List ℕ) where
         ≡ edgeRecords (suc e) (map (targetAt h s) (from (suc e) n)) ++ drop (edgePlace h s (suc e) + 2 * n) s
 
   chain-was : (n k x e : ℕ) → n < k → follow (nextAt h s) k x ≡ from (suc e) n → edgePlace h s (suc e) + 2 * n ≤ length s → ChainWas x e n
-  unfolding follow from firstEdge edgeRecords targetAt nextAt
+  unfolding follow from firstEdge edgeRecords
   chain-was n zero x e l q r = absurd (omega arith)
   chain-was zero (suc k) zero e l q r =
       let p : edgePlace h s (suc e) + 2 * 0 ≡ edgePlace h s (suc e) = omega arith in record { first = refl; words = rw p }
@@ -89,7 +90,7 @@ module _ (h : Heading) (s : List ℕ) where
 
   pub copies-were : (k i e m : ℕ) → 1 ≤ i → each (chainAt h s) (from i k) ≡ from (suc e) m → m ≤ h .edges
       → h .records + 3 * (i - 1) + 3 * k ≤ length s → edgePlace h s (suc e) + 2 * m ≤ length s → CopiesWere k i e m
-  unfolding each from copyWords edgeWords edgeCount rowAt copyAt targetsAt chainAt blockAt lowAt firstAt
+  unfolding each from copyWords edgeWords edgeCount rowAt copyAt targetsAt chainAt
   copies-were zero i e zero l q f r t =
       let a : h .records + 3 * (i - 1) + 3 * 0 ≡ h .records + 3 * (i - 1) = omega arith in
       let b : edgePlace h s (suc e) + 2 * 0 ≡ edgePlace h s (suc e) = omega arith in

@@ -4,7 +4,7 @@ use mathlib.Core.List.{List, [], _∷_, _++_, map}
 use Prim.Native.Nat.{ℕ, suc, _+_, _-_, _*_}
 use lib.ListN.{length, take, drop}
 use Rattle.base.specs.Copy.{Copy}
-use Rattle.formats.specs.Words.{word, follow}
+use Rattle.formats.specs.Words.{word, field, targetFrom, nextFrom, edgesFrom}
 
 -- WRITING
 
@@ -60,35 +60,40 @@ heading s = record { copies = word s 0; edges = word s 1; budget = word s 2; rec
 abbrev pub boundedLength : Heading → ℕ
 boundedLength h = h .records + 3 * h .copies + 2 * h .edges
 
+-- the word at which the edge records begin
+abbrev pub edgesAt : Heading → ℕ
+edgesAt h = h .records + 3 * h .copies
+
+-- THE RECORDS, behind any header: h is what it says
 module _ (h : Heading) (s : List ℕ) where
-  unfoldable pub blockAt : ℕ → ℕ
-  blockAt i = word s (h .records + 3 * (i - 1))
+  abbrev pub blockAt : ℕ → ℕ
+  blockAt i = field s (h .records) 3 i 0
 
-  unfoldable pub lowAt : ℕ → ℕ
-  lowAt i = word s (h .records + 3 * (i - 1) + 1)
+  abbrev pub lowAt : ℕ → ℕ
+  lowAt i = field s (h .records) 3 i 1
 
-  unfoldable pub firstAt : ℕ → ℕ
-  firstAt i = word s (h .records + 3 * (i - 1) + 2)
+  abbrev pub firstAt : ℕ → ℕ
+  firstAt i = field s (h .records) 3 i 2
 
-  unfoldable pub targetAt : ℕ → ℕ
-  targetAt e = word s (h .records + 3 * h .copies + 2 * (e - 1))
+  abbrev pub targetAt : ℕ → ℕ
+  targetAt e = targetFrom s (edgesAt h) e
 
-  unfoldable pub nextAt : ℕ → ℕ
-  nextAt e = word s (h .records + 3 * h .copies + 2 * (e - 1) + 1)
+  abbrev pub nextAt : ℕ → ℕ
+  nextAt e = nextFrom s (edgesAt h) e
 
   unfoldable pub copyAt : ℕ → Copy
   copyAt i = record { block = blockAt i; low = lowAt i }
 
   -- a copy's chain, by edge numbers, and its targets
   unfoldable pub chainAt : ℕ → List ℕ
-  chainAt i = follow nextAt (suc (h .edges)) (firstAt i)
+  chainAt i = edgesFrom s (edgesAt h) (suc (h .edges)) (firstAt i)
 
   unfoldable pub targetsAt : ℕ → List ℕ
   targetsAt i = map targetAt (chainAt i)
 
 -- the edge words of one copy, which stand together: the word at which they begin, counted from 0, and the words
 abbrev pub partStart : List ℕ → ℕ → ℕ
-partStart s i = let h = heading s in h .records + 3 * h .copies + 2 * (firstAt h s i - 1)
+partStart s i = let h = heading s in edgesAt h + 2 * (firstAt h s i - 1)
 
 unfoldable pub edgePart : List ℕ → ℕ → List ℕ
 edgePart s i = take (2 * length (chainAt (heading s) s i)) (drop (partStart s i) s)

@@ -1,14 +1,15 @@
 -- The graph sheet: its header, its records, its chains, and the conditions 1 to 8 by number (document 01, "Graph sheet" and the table).
 -- Rests on base Lists and Checks, Limits, Words.
+use mathlib.Core.Path.{_≡_}
 use mathlib.Core.Bool.{Bool, true, false, _||_, not}
 use mathlib.Core.List.{List, [], _∷_, _++_, map}
-use Prim.Native.Nat.{ℕ, zero, suc, _+_, _-_, _*_}
+use Prim.Native.Nat.{ℕ, zero, suc, _+_, _*_, _≤_}
 use lib.Dec.{ltb, eqb}
 use lib.ListN.{length}
 use Rattle.base.specs.Lists.{any, all, each, from}
 use Rattle.base.specs.Checks.{Order, refused, over, outside}
-use Rattle.formats.specs.Limits.{leastBlocks, mostBlocks, leastEdges, mostEdges, mostBudget}
-use Rattle.formats.specs.Words.{word, follow, chainLength, unsound}
+use Rattle.formats.specs.Limits.{leastWords, leastBlocks, mostBlocks, leastEdges, mostEdges, mostBudget}
+use Rattle.formats.specs.Words.{word, field, chainLength, unsound, targetFrom, nextFrom, edgesFrom}
 
 -- what the header says: N blocks, E edges, the budget B, and the word at which the records begin, counted from 0
 pub record Header : Type 0 where
@@ -26,24 +27,28 @@ header w = record { blocks = word w 0; edges = word w 1; budget = word w 2; reco
 abbrev pub sheetLength : Header → ℕ
 sheetLength h = h .records + 2 * h .blocks + 2 * h .edges
 
--- the words of the records; "Blocks and edges are numbered from 1"
+-- the word at which the edge records begin
+abbrev pub edgesAt : Header → ℕ
+edgesAt h = h .records + 2 * h .blocks
+
+-- THE RECORDS, behind any header: h is what it says
 module _ (h : Header) (w : List ℕ) where
   -- a number that is no block's costs nothing
   unfoldable pub costWord : ℕ → ℕ
-  costWord v = elim (outside 1 (h .blocks) v) [ true ↦ 0 | false ↦ word w (h .records + 2 * (v - 1)) ]
+  costWord v = elim (outside 1 (h .blocks) v) [ true ↦ 0 | false ↦ field w (h .records) 2 v 0 ]
 
-  unfoldable pub firstWord : ℕ → ℕ
-  firstWord v = word w (h .records + 2 * (v - 1) + 1)
+  abbrev pub firstWord : ℕ → ℕ
+  firstWord v = field w (h .records) 2 v 1
 
-  unfoldable pub targetWord : ℕ → ℕ
-  targetWord e = word w (h .records + 2 * h .blocks + 2 * (e - 1))
+  abbrev pub targetWord : ℕ → ℕ
+  targetWord e = targetFrom w (edgesAt h) e
 
-  unfoldable pub nextWord : ℕ → ℕ
-  nextWord e = word w (h .records + 2 * h .blocks + 2 * (e - 1) + 1)
+  abbrev pub nextWord : ℕ → ℕ
+  nextWord e = nextFrom w (edgesAt h) e
 
   -- a block's chain, by edge numbers; one more than there are edges is enough to see an edge twice
   unfoldable pub chain : ℕ → List ℕ
-  chain v = follow nextWord (suc (h .edges)) (firstWord v)
+  chain v = edgesFrom w (edgesAt h) (suc (h .edges)) (firstWord v)
 
   -- the edges met by following all chains, block by block
   unfoldable pub met : List ℕ
@@ -61,47 +66,82 @@ module _ (h : Header) (w : List ℕ) where
 
 -- 1: fewer than 3 words
 unfoldable pub short : List ℕ → Bool
-short w = ltb (length w) (header w .records)
+short w = ltb (length w) leastWords
 
--- 2: N or E outside its limit
-unfoldable pub badCounts : List ℕ → Bool
-badCounts w = outside leastBlocks mostBlocks (header w .blocks) || outside leastEdges mostEdges (header w .edges)
-
--- 3: not exactly 3 + 2N + 2E words
-unfoldable pub badLength : List ℕ → Bool
-badLength w = not (eqb (length w) (sheetLength (header w)))
-
--- 4: B above 500
-unfoldable pub badBudget : List ℕ → Bool
-badBudget w = ltb mostBudget (header w .budget)
-
--- 5: block 1 or 2 with a cost, or another block with cost 0
+-- a cost that fits block v: "block 1 or 2 with a cost, or another block with cost 0" does not
 unfoldable pub costFits : ℕ → ℕ → Bool
 costFits v c = elim (ltb v 3) [ true ↦ eqb c 0 | false ↦ ltb 0 c ]
 
-unfoldable pub badCosts : List ℕ → Bool
-badCosts w = not (all (λ v. costFits v (costWord (header w) w v)) (from 1 (header w .blocks)))
+-- the others, behind any header
+module _ (h : Header) (w : List ℕ) where
+  -- 2: N or E outside its limit
+  unfoldable pub badCounts : Bool
+  badCounts = outside leastBlocks mostBlocks (h .blocks) || outside leastEdges mostEdges (h .edges)
 
--- 6: a target that is 0, 1 or above N
-unfoldable pub badTargets : List ℕ → Bool
-badTargets w = any (λ e. outside 2 (header w .blocks) (targetWord (header w) w e)) (from 1 (header w .edges))
+  -- 3: not exactly 3 + 2N + 2E words
+  unfoldable pub badLength : Bool
+  badLength = not (eqb (length w) (sheetLength h))
 
--- 7: following all chains meets an edge number above E, or an edge twice, or misses an edge
-unfoldable pub badChains : List ℕ → Bool
-badChains w = unsound (header w .edges) (met (header w) w)
+  -- 4: B above 500
+  unfoldable pub badBudget : Bool
+  badBudget = ltb mostBudget (h .budget)
 
--- 8: the exit has a chain
-unfoldable pub exitChain : List ℕ → Bool
-exitChain w = not (eqb (firstWord (header w) w 2) 0)
+  -- 5: block 1 or 2 with a cost, or another block with cost 0
+  unfoldable pub badCosts : Bool
+  badCosts = not (all (λ v. costFits v (costWord h w v)) (from 1 (h .blocks)))
 
--- the order of the conditions on a graph sheet alone
+  -- 6: a target that is 0, 1 or above N
+  unfoldable pub badTargets : Bool
+  badTargets = any (λ e. outside 2 (h .blocks) (targetWord h w e)) (from 1 (h .edges))
+
+  -- 7: following all chains meets an edge number above E, or an edge twice, or misses an edge
+  unfoldable pub badChains : Bool
+  badChains = unsound (h .edges) (met h w)
+
+  -- 8: the exit has a chain
+  unfoldable pub exitChain : Bool
+  exitChain = not (eqb (firstWord h w 2) 0)
+
+-- THE ORDER of the conditions on a graph sheet alone, in pieces that are put together
+abbrev pub condition : ℕ → (Header → List ℕ → Bool) → ℕ × (List ℕ → Bool)
+condition k f = (k, λ w. f (header w) w)
+
+abbrev pub lengthOrder : Order (List ℕ)
+lengthOrder = (1, short) ∷ []
+
+abbrev pub countsOrder : Order (List ℕ)
+countsOrder = condition 2 badCounts ∷ []
+
+abbrev pub sizeOrder : Order (List ℕ)
+sizeOrder = condition 3 badLength ∷ []
+
+abbrev pub budgetOrder : Order (List ℕ)
+budgetOrder = condition 4 badBudget ∷ []
+
+abbrev pub costOrder : Order (List ℕ)
+costOrder = condition 5 badCosts ∷ []
+
+abbrev pub edgeOrder : Order (List ℕ)
+edgeOrder = condition 6 badTargets ∷ condition 7 badChains ∷ condition 8 exitChain ∷ []
+
 unfoldable pub sheetOrder : Order (List ℕ)
-sheetOrder =
-    (1, short) ∷ (2, badCounts) ∷ (3, badLength) ∷ (4, badBudget)
-    ∷ (5, badCosts) ∷ (6, badTargets) ∷ (7, badChains) ∷ (8, exitChain) ∷ []
+sheetOrder = lengthOrder ++ countsOrder ++ sizeOrder ++ budgetOrder ++ costOrder ++ edgeOrder
 
 unfoldable pub sheetRefusal : List ℕ → ℕ
 sheetRefusal w = refused sheetOrder w
+
+-- WHAT THEY LEAVE, behind any header: 2 and 3, a row of the length that the header says; 5 to 8, records that hold a graph
+pub record Formed (h : Header) (w : List ℕ) : Type 0 where
+  pub blocks : (leastBlocks ≤ h .blocks) × (h .blocks ≤ mostBlocks)
+  pub edges : (leastEdges ≤ h .edges) × (h .edges ≤ mostEdges)
+  pub size : length w ≡ sheetLength h
+
+pub record Sound (h : Header) (w : List ℕ) : Type 0 where
+  pub form : Formed h w
+  pub costs : badCosts h w ≡ false
+  pub targets : badTargets h w ≡ false
+  pub chains : badChains h w ≡ false
+  pub exit : exitChain h w ≡ false
 
 -- THE NUMBER OF SUCCESSORS, as a call: the sheet's own numbers, then 33 for a block outside 1 to N; a refusal counts 0
 pub record BlockOf : Type 0 where

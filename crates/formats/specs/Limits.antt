@@ -2,6 +2,10 @@
 -- Rests on nothing.
 use Prim.Native.Nat.{ℕ, suc, _*_}
 
+-- 1: "fewer than 3 words"
+abbrev pub leastWords : ℕ
+leastWords = 3
+
 -- N, the number of blocks
 abbrev pub leastBlocks : ℕ
 leastBlocks = 2

@@ -8,12 +8,12 @@ use lib.ListN.{length}
 use Rattle.base.specs.Lists.{any, keep, each, from, equal}
 use Rattle.base.specs.Copy.{before}
 use Rattle.base.specs.Checks.{Order, refused, over, outside}
-use Rattle.formats.specs.Limits.{mostBlocks, mostBudget, leastCopies, mostCopies, leastBoundedEdges, mostBoundedEdges}
+use Rattle.formats.specs.Limits.{leastWords, mostBlocks, mostBudget, leastCopies, mostCopies, leastBoundedEdges, mostBoundedEdges}
 use Rattle.formats.specs.BoundedSheet.{Heading, heading, boundedLength, blockAt, lowAt, firstAt, targetAt, copyAt, chainAt, partStart, edgePart}
 
 -- "under 3 words"
 unfoldable pub tooShort : List ℕ → Bool
-tooShort s = ltb (length s) (heading s .records)
+tooShort s = ltb (length s) leastWords
 
 -- the other clauses, for any header: h is what it says
 module _ (h : Heading) (s : List ℕ) where
