@@ -1,2 +1,8 @@
--- one turn of a loop over a chain: rest-start, edge-fits, rest-on, targets-on, any-hit, any-on
-pub mod Rest
+-- unsound chains found with a row of marks: from-clear, missed-are
+pub mod Marks
+-- one chain followed, turn by turn: Chained, chain-begins, chain-ends, edge-above, edge-twice, edge-new
+pub mod Following
+-- one chain counted, edge by edge: Passed
+pub mod Counting
+-- the k-th target of a chain: Looking
+pub mod Looking

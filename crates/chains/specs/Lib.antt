@@ -1,1 +1,4 @@
-pub mod Rest
+-- What the contracts cite beside formats Words.
+-- Rests on base Lists, formats Words.
+-- chains followed with a row of marks: missed, unsoundFrom, Marking
+pub mod Marks

@@ -1,2 +1,2 @@
--- what the conditions 1 to 3, and an accepted sheet, give: formed, formed-of
-pub mod Formed
+-- the words before a record: record-end
+pub mod Records

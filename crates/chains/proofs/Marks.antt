@@ -1,5 +1,5 @@
--- Following edges with a row of marks, from clear marks on, finds what the definition of unsound chains says.
--- Rests on base Truth, formats Words, specs Marks.
+-- Following records with a row of marks, from clear marks on, finds what the definition of unsound chains says.
+-- Rests on base Truth and Search, formats Words, specs Marks.
 use mathlib.Core.Path.{_≡_, refl, sym, ap, _∙_}
 use mathlib.Core.Bool.{Bool, true, false, _&&_, _||_, not, or-false, or-assoc, or-comm}
 use mathlib.Core.List.{List, [], _∷_}
@@ -13,7 +13,9 @@ use borrow.Author.Tests.{eq-eqb, ne-eqb, ltb-false}
 use Rattle.base.specs.Lists.{any, all, from, member, distinct}
 use Rattle.base.proofs.Truth.{none-any}
 use Rattle.formats.specs.Words.{unsound}
-use Rattle.graph_check.specs.Marks.{marked, missed, unsoundFrom}
+use Rattle.base.specs.Cells.{isSet}
+use Rattle.base.proofs.Search.{not-all}
+use Rattle.chains.specs.Marks.{missed, unsoundFrom}
 
 -- TESTS JOINED BY OR, in another order
 
@@ -50,8 +52,8 @@ turned false false false n p m = refl
 
 -- ONE MORE MARK
 
-marked-set : (seen : List ℕ) (x e : ℕ) → x < length seen → marked (set seen x 1) e ≡ (eqb e x || marked seen e)
-unfolding marked
+marked-set : (seen : List ℕ) (x e : ℕ) → x < length seen → isSet (set seen x 1) e ≡ (eqb e x || isSet seen e)
+unfolding isSet
 marked-set seen x e h = go (ℕ-discrete e x)
   where
     go : Dec (e ≡ x) → not (eqb (getD (set seen x 1) e 0) 0) ≡ (eqb e x || not (eqb (getD seen e 0) 0))
@@ -59,17 +61,17 @@ marked-set seen x e h = go (ℕ-discrete e x)
     go (no n) = rw (getD-set-other seen x e 1 0 n, ne-eqb e x n)
 
 any-marked-set : (seen : List ℕ) (x : ℕ) (es : List ℕ) → x < length seen
-    → any (marked (set seen x 1)) es ≡ (member x es || any (marked seen) es)
+    → any (isSet (set seen x 1)) es ≡ (member x es || any (isSet seen) es)
 unfolding member
 any-marked-set seen x es h =
     (λ i. any (λ e. marked-set seen x e h i) es)
-    ∙ any-or (λ e. eqb e x) (marked seen) es
-    ∙ (λ i. any (λ e. eqb-turn e x i) es || any (marked seen) es)
+    ∙ any-or (λ e. eqb e x) (isSet seen) es
+    ∙ (λ i. any (λ e. eqb-turn e x i) es || any (isSet seen) es)
 
 -- FROM ANY MARKS: an edge above m, or one twice or marked before, or one of 1 to m neither met nor marked
 abbrev unsoundWith : ℕ → List ℕ → List ℕ → Bool
 unsoundWith m seen es =
-    any (λ e. ltb m e) es || ((not (distinct es) || any (marked seen) es) || not (all (λ e. member e es || marked seen e) (from 1 m)))
+    any (λ e. ltb m e) es || ((not (distinct es) || any (isSet seen) es) || not (all (λ e. member e es || isSet seen e) (from 1 m)))
 
 from-any : (m : ℕ) (es seen : List ℕ) → m < length seen → unsoundFrom m seen es ≡ unsoundWith m seen es
 unfolding unsoundFrom missed any distinct member
@@ -81,16 +83,16 @@ from-any m (x ∷ es) seen h = go (ltb m x) refl (from-any m es (set seen x 1))
     go true b rest = rw b
     go false b rest =
         let l : x < length seen = omega (arith, ltb-false m x b) in
-        let same : (e : ℕ) → (member e es || marked (set seen x 1) e) ≡ ((eqb e x || member e es) || marked seen e)
+        let same : (e : ℕ) → (member e es || isSet (set seen x 1) e) ≡ ((eqb e x || member e es) || isSet seen e)
         = λ e. ap (λ (b : Bool). member e es || b) (marked-set seen x e l)
-        ∙ sym (or-assoc (member e es) (eqb e x) (marked seen e))
-        ∙ ap (λ (b : Bool). b || marked seen e) (or-comm (member e es) (eqb e x)) in
+        ∙ sym (or-assoc (member e es) (eqb e x) (isSet seen e))
+        ∙ ap (λ (b : Bool). b || isSet seen e) (or-comm (member e es) (eqb e x)) in
         let tail = rest (rw length-set h)
         ∙ (λ i. any (λ e. ltb m e) es || ((not (distinct es) || any-marked-set seen x es l i) || not (all (λ e. same e i) (from 1 m)))) in
         rw b
-        (ap (λ (b : Bool). marked seen x || b) tail
-        ∙ turned (marked seen x) (any (λ e. ltb m e) es) (member x es) (distinct es) (any (marked seen) es)
-        (all (λ e. (eqb e x || member e es) || marked seen e) (from 1 m)))
+        (ap (λ (b : Bool). isSet seen x || b) tail
+        ∙ turned (isSet seen x) (any (λ e. ltb m e) es) (member x es) (distinct es) (any (isSet seen) es)
+        (all (λ e. (eqb e x || member e es) || isSet seen e) (from 1 m)))
 
 -- FROM CLEAR MARKS
 
@@ -100,12 +102,17 @@ getD-zeros (suc k) zero = refl
 getD-zeros (suc k) (suc i) = getD-zeros k i
 
 pub from-clear : (k m : ℕ) (es : List ℕ) → m < k → unsound m es ≡ unsoundFrom m (replicate k 0) es
-unfolding unsound marked
+unfolding unsound isSet
 from-clear k m es h =
-    let clear : (e : ℕ) → marked (replicate k 0) e ≡ false = λ e. ap not (eq-eqb (getD (replicate k 0) e 0) 0 (getD-zeros k e)) in
-    let twice : (not (distinct es) || any (marked (replicate k 0)) es) ≡ not (distinct es)
-    = ap (λ (b : Bool). not (distinct es) || b) (none-any (marked (replicate k 0)) es (λ e n. clear e)) ∙ or-false (not (distinct es)) in
-    let same : (e : ℕ) → (member e es || marked (replicate k 0) e) ≡ member e es
+    let clear : (e : ℕ) → isSet (replicate k 0) e ≡ false = λ e. ap not (eq-eqb (getD (replicate k 0) e 0) 0 (getD-zeros k e)) in
+    let twice : (not (distinct es) || any (isSet (replicate k 0)) es) ≡ not (distinct es)
+    = ap (λ (b : Bool). not (distinct es) || b) (none-any (isSet (replicate k 0)) es (λ e n. clear e)) ∙ or-false (not (distinct es)) in
+    let same : (e : ℕ) → (member e es || isSet (replicate k 0) e) ≡ member e es
     = λ e. ap (λ (b : Bool). member e es || b) (clear e) ∙ or-false (member e es) in
     sym (from-any m es (replicate k 0) (rw length-replicate h)
     ∙ (λ i. any (λ e. ltb m e) es || (twice i || not (all (λ e. same e i) (from 1 m)))))
+
+-- a record that is not marked
+pub missed-are : (m : ℕ) (seen : List ℕ) → missed m seen ≡ any (λ e. not (isSet seen e)) (from 1 m)
+unfolding missed
+missed-are m seen = not-all (isSet seen) (from 1 m)
