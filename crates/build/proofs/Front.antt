@@ -9,7 +9,7 @@ use lib.ListN.{length}
 use Rattle.base.specs.Lists.{any, from, member}
 use Rattle.base.specs.Checks.{refused, lentAfter}
 use Rattle.base.proofs.Orders.{over-stops, over-passes, refused-lent}
-use Rattle.formats.specs.GraphSheet.{header}
+use Rattle.formats.specs.GraphSheet.{budgetIn, header}
 use Rattle.formats.specs.BoundedSheet.{heading}
 use Rattle.calls.specs.SheetGraph.{task, sheetCopies, boundedSheet}
 use Rattle.calls.specs.Weigh.{Weighing, weighOrder, beforeWeighing, areaAfter, weighed}
@@ -48,7 +48,7 @@ module _ (w area out : List ℕ) where
   -- WEIGHING PASSES
   module _ (e : weighed front .answer ≡ 0) where
     abbrev B : ℕ
-    B = header w .budget
+    B = budgetIn w
 
     pub passed-answer : build lent .answer ≡ answerAt w B (length out)
     unfolding build buildOrder weighed answerAt refused smallOutput boundedSheet sheetCopies

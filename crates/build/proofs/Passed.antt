@@ -10,7 +10,7 @@ use lib.ListN.{length, getD, replicate}
 use Rattle.base.specs.Lists.{any, isNone, from, member}
 use Rattle.theory.specs.Completions.{lowOf}
 use Rattle.formats.specs.Limits.{mostBlocks, mostBudget}
-use Rattle.formats.specs.GraphSheet.{header, sheetRefusal}
+use Rattle.formats.specs.GraphSheet.{budgetIn, header, sheetRefusal}
 use Rattle.formats.proofs.Accepted.{accepted, long, blocks, budget-fits}
 use Rattle.calls.specs.SheetGraph.{graph}
 use Rattle.calls.specs.Area.{areaSize, filled, Table}
@@ -30,23 +30,23 @@ module _ (w area : List ℕ) (e : weighed (record { sheet = w; area = area }) .a
   pub has-header : 3 ≤ length w
   has-header = long w (accepted w (passed .ok))
 
-  pub small-budget : header w .budget ≤ mostBudget
+  pub small-budget : budgetIn w ≤ mostBudget
   small-budget = budget-fits w (accepted w (passed .ok))
 
-  pub something-fits : isNone (lowOf (graph w) 1 (header w .budget)) ≡ false
+  pub something-fits : isNone (lowOf (graph w) 1 (budgetIn w)) ≡ false
   unfolding isNone
   something-fits = ap isNone (passed .opens)
 
   -- the area holds the table
-  area-filled : weighed (record { sheet = w; area = area }) .area ≡ filled (graph w) (header w .blocks) (header w .budget) area
+  area-filled : weighed (record { sheet = w; area = area }) .area ≡ filled (graph w) (header w .blocks) (budgetIn w) area
   unfolding weighed any member from
   area-filled = sym (late-area w area _ (ap beforeWeighing e ∙ spared 0))
 
-  pub has-table : Table (graph w) (header w .blocks) (header w .budget) (weighed (record { sheet = w; area = area }) .area)
+  pub has-table : Table (graph w) (header w .blocks) (budgetIn w) (weighed (record { sheet = w; area = area }) .area)
   unfolding taskArea
   has-table =
-      subst (Table (graph w) (header w .blocks) (header w .budget)) (sym area-filled)
-      (filled-table (graph w) (header w .blocks) (header w .budget) area (passed .room))
+      subst (Table (graph w) (header w .blocks) (budgetIn w)) (sym area-filled)
+      (filled-table (graph w) (header w .blocks) (budgetIn w) area (passed .room))
 
 -- the cells of an accepted sheet are few
 pub few-cells : (w : List ℕ) (b : ℕ) → sheetRefusal w ≡ 0 → b ≤ mostBudget → areaSize (header w .blocks) b ≤ mostBlocks * suc mostBudget

@@ -19,7 +19,7 @@ use Rattle.theory.proofs.Completions.{low-some}
 use Rattle.theory.proofs.Counts.{edge-of}
 use Rattle.theory.proofs.Reach.{copy-sound, start-in, start-only, exit-in}
 use Rattle.formats.specs.Limits.{mostCopies, mostBoundedEdges, wordLimit}
-use Rattle.formats.specs.GraphSheet.{header, sheetRefusal}
+use Rattle.formats.specs.GraphSheet.{budgetIn, header, sheetRefusal}
 use Rattle.formats.specs.BoundedSheet.{Row, edgeCount, sheetWords, heading}
 use Rattle.formats.specs.Rule11.{boundedRefusal}
 use Rattle.formats.proofs.Accepted.{Accepted, accepted}
@@ -34,7 +34,7 @@ use Rattle.calls.proofs.SettingRows.{row-at, lays-out, rises, apart, on
 pub record Buildable (w : List ℕ) : Type 0 where
   pub ok : sheetRefusal w ≡ 0
   pub start : ℕ
-  pub opens : lowOf (graph w) 1 (header w .budget) ≡ some start
+  pub opens : lowOf (graph w) 1 (budgetIn w) ≡ some start
   pub few : heading (boundedSheet w) .copies ≤ mostCopies
   pub edges : heading (boundedSheet w) .edges ≤ mostBoundedEdges
 
@@ -43,10 +43,10 @@ module _ (w : List ℕ) (K : Buildable w) where
   A = accepted w (K .ok)
 
   abbrev pub setting : Setting
-  setting = settingAt (header w) w (A .sound) (header w .budget) (K .start) (K .opens)
+  setting = settingAt (header w) w (A .sound) (budgetIn w) (K .start) (K .opens)
 
   abbrev pub entry : Entry setting
-  entry = record { budget = header w .budget; named = List·Memᴰ·head refl; low = K .start; fits = K .opens }
+  entry = record { budget = budgetIn w; named = List·Memᴰ·head refl; low = K .start; fits = K .opens }
 
   abbrev ds : List Copy
   ds = copies setting
@@ -61,7 +61,7 @@ module _ (w : List ℕ) (K : Buildable w) where
   only-start : (c : Copy) → List·Memᴰ c ds → c .block ≡ 1 → c ≡ first
   only-start c m e =
       let r = start-only setting c m e in
-      let b : r .0 .budget ≡ header w .budget = List·Memᴰ·eq-of-singleton (r .0 .named) in
+      let b : r .0 .budget ≡ budgetIn w = List·Memᴰ·eq-of-singleton (r .0 .named) in
       let q : some (r .0 .low) ≡ some (K .start) = sym (r .0 .fits) ∙ ap (lowOf (graph w) 1) b ∙ K .opens in
       let l : r .0 .low ≡ K .start = Option·some-injective _ _ q in
       sym (r .1) ∙ (λ i. record { block = 1; low = l i })
@@ -115,7 +115,7 @@ module _ (w : List ℕ) (K : Buildable w) where
 
   pub sheet-lays-out : LaysOut setting (readBounded (boundedSheet w))
   unfolding readBounded boundedSheet sheetCopies
-  sheet-lays-out = lays-out setting (heading (boundedSheet w)) (boundedSheet w) (laid (header w .budget) (rowsOf (graph w) ds)) 2 last-place
+  sheet-lays-out = lays-out setting (heading (boundedSheet w)) (boundedSheet w) (laid (budgetIn w) (rowsOf (graph w) ds)) 2 last-place
 
   -- RULE 11
   abbrev rs : List Row
@@ -129,7 +129,7 @@ module _ (w : List ℕ) (K : Buildable w) where
   some-edge : 1 ≤ edgeCount rs
   unfolding rowOf rowsOf targets
   some-edge =
-      let e = edge-of (graph w) (setting .laws) (low-some (graph w) (setting .laws) 1 (header w .budget) (K .start) (K .opens) .cost)
+      let e = edge-of (graph w) (setting .laws) (low-some (graph w) (setting .laws) 1 (budgetIn w) (K .start) (K .opens) .cost)
       (λ e. omega arith) in
       omega (
         arith,
@@ -139,7 +139,7 @@ module _ (w : List ℕ) (K : Buildable w) where
         length-map (graph w .next 1) (copyFor (graph w) (K .start - graph w .cost 1)),
       )
 
-  fits : Fits (header w .budget) rs
+  fits : Fits (budgetIn w) rs
   unfolding rowsOf heading boundedSheet sheetWords sheetCopies
   fits =
       record {
@@ -152,9 +152,9 @@ module _ (w : List ℕ) (K : Buildable w) where
 
   pub keeps-rule : boundedRefusal (boundedSheet w) ≡ 0
   unfolding boundedSheet sheetCopies
-  keeps-rule = fits-rule (header w .budget) rs fits
+  keeps-rule = fits-rule (budgetIn w) rs fits
 
   -- every word that the build fills fits 16 bits
   pub words-fit-16 : (x : ℕ) → List·Memᴰ x (boundedSheet w) → x < wordLimit
   unfolding boundedSheet sheetCopies
-  words-fit-16 = words-fit (header w .budget) rs fits
+  words-fit-16 = words-fit (budgetIn w) rs fits

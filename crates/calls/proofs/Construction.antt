@@ -17,7 +17,7 @@ use Rattle.theory.specs.Copies.{targets, copyFor, add, join, startCopies, targe
 use Rattle.theory.specs.Setting.{Setting, copies}
 use Rattle.theory.proofs.Completions.{low-some, is-low, no-low, exit-cost, covers, serves}
 use Rattle.theory.proofs.Reach.{target-mem, edge-target, targets-in, reached-in, in-reached, copy-sound}
-use Rattle.formats.specs.GraphSheet.{header}
+use Rattle.formats.specs.GraphSheet.{budgetIn, header}
 use Rattle.formats.specs.BoundedSheet.{sheetWords, heading, boundedLength, copyAt, targetsAt}
 use Rattle.formats.specs.Rule11.{wrongLength}
 use Rattle.formats.proofs.Reading.{laid, Reads, reads}
@@ -52,7 +52,7 @@ module _ (w : List ℕ) (K : Buildable w) where
       let t = boundedSheet w in
       let rs = rowsOf g (copies S) in
       let row : (i : ℕ) (c : Copy) → chosen (copies S) i ≡ some c → Reads (heading t) t rs i (rowOf g (copies S) c)
-      = λ i c q. reads (heading t) t rs (laid (header w .budget) rs) i (rowOf g (copies S) c) (row-at S i c q) in
+      = λ i c q. reads (heading t) t rs (laid (budgetIn w) rs) i (rowOf g (copies S) c) (row-at S i c q) in
       record {
         copies = length-map (copies S) (rowOf g (copies S));
         record-is = λ i c q. let r = row i c q in λ j. record { block = r .block j; low = r .low j };
@@ -146,8 +146,8 @@ module _ (w : List ℕ) (K : Buildable w) where
       ap length (A .edges) ∙ length-map (targets g (A .copy)) (targetNumber cs)
       ∙ length-map (g .next (A .copy .block)) (copyFor g (A .copy .low - g .cost (A .copy .block)))
 
-  from-start : startCopies g (header w .budget ∷ []) ≡ copyOf 1 (K .start) ∷ []
-  from-start = one-start g (header w .budget) (K .start) (K .opens)
+  from-start : startCopies g (budgetIn w ∷ []) ≡ copyOf 1 (K .start) ∷ []
+  from-start = one-start g (budgetIn w) (K .start) (K .opens)
 
   -- what is said of a record's copy holds of the copy that it is
   module _ {i : ℕ} (A : At i) where
@@ -159,7 +159,7 @@ module _ (w : List ℕ) (K : Buildable w) where
     cost-at r e =
         sym (ap (λ (c : Copy). c .low) (A .read)) ∙ e ∙ ap (λ (c : Copy). g .cost (c .block) + r) (A .read)
 
-  budget-is : heading t .budget ≡ header w .budget
+  budget-is : heading t .budget ≡ budgetIn w
   unfolding boundedSheet sheetWords heading
   budget-is = refl
 
@@ -176,7 +176,7 @@ module _ (w : List ℕ) (K : Buildable w) where
         serves = λ i r v x y a p h m e f.
             serves g (S .laws) (copyAt (heading t) t i .block) v r (copyAt (heading t) t i .low) m h e f a;
         start = K .start;
-        start-low = low-some g (S .laws) 1 (header w .budget) (K .start) (K .opens);
+        start-low = low-some g (S .laws) 1 (budgetIn w) (K .start) (K .opens);
         choices = λ i p.
             let A = at i p in
             length-at i A ∙ sym (ap (λ (c : Copy). length (g .next (c .block))) (A .read));

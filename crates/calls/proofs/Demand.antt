@@ -17,7 +17,7 @@ use Rattle.theory.proofs.Agreement.{agrees, paths-kept}
 use Rattle.theory.proofs.Monitor.{monitor-acts}
 use Rattle.theory.proofs.Shape.{monitor-kept, monitor-start, Held, held-shape, held-kept, held-start}
 use Rattle.formats.specs.Limits.{mostCopies, mostBoundedEdges}
-use Rattle.formats.specs.GraphSheet.{header}
+use Rattle.formats.specs.GraphSheet.{budgetIn, header}
 use Rattle.formats.specs.BoundedSheet.{heading, sheetWords}
 use Rattle.calls.specs.SheetGraph.{task, graph, boundedSheet, readBounded}
 use Rattle.calls.specs.Weigh.{taskArea, weighOrder}
@@ -45,7 +45,7 @@ module _ (w : List ℕ) (K : Buildable w) where
   N = header w .blocks
 
   abbrev B : ℕ
-  B = header w .budget
+  B = budgetIn w
 
   abbrev t : List ℕ
   t = boundedSheet w

@@ -15,7 +15,7 @@ use Rattle.base.proofs.Orders.{over-is}
 use Rattle.theory.specs.Completions.{Graph, Completion, completes, lowOf}
 use Rattle.theory.specs.Setting.{WellFormed}
 use Rattle.theory.proofs.Completions.{completes-sound, completes-complete, low-none, no-low}
-use Rattle.formats.specs.GraphSheet.{header, sheetRefusal}
+use Rattle.formats.specs.GraphSheet.{budgetIn, header, sheetRefusal}
 use Rattle.formats.proofs.Accepted.{accepted}
 use Rattle.calls.specs.SheetGraph.{task, graph}
 use Rattle.calls.specs.Area.{byteOf, filled}
@@ -37,7 +37,7 @@ pub nine-is-exact : NineIsExact
 unfolding nothingFits isNone
 nine-is-exact w ok =
     let L = well-formed (header w) w (accepted w ok .sound) in
-    let b = header w .budget in
+    let b = budgetIn w in
     (λ e. low-none (graph w) L 1 b (none-of (lowOf (graph w) 1 b) e), λ n. ap isNone (no-low (graph w) L n))
 
 -- a byte is that of a completion, or of none
@@ -62,7 +62,7 @@ module _ (w area : List ℕ) (ok : sheetRefusal w ≡ 0) (room : taskArea (task 
   n = header w .blocks
 
   abbrev b : ℕ
-  b = header w .budget
+  b = budgetIn w
 
   abbrev L : WellFormed (graph w)
   L = well-formed (header w) w (accepted w ok .sound)

@@ -16,7 +16,7 @@ use Rattle.base.proofs.Orders.{Numbered, pick, tested, none-left, over-is, over
 use Rattle.theory.specs.Completions.{lowOf}
 use Rattle.theory.specs.Machines.{End, going, exit, diverted, Reply, Machine, taken, replyAt, reply}
 use Rattle.theory.specs.Walks.{Walk, isExit, hasEnded, InShape, mostMoves, monitor, boundedWalk}
-use Rattle.formats.specs.GraphSheet.{header, sheetRefusal}
+use Rattle.formats.specs.GraphSheet.{budgetIn, header, sheetRefusal}
 use Rattle.formats.specs.BoundedSheet.{heading}
 use Rattle.formats.specs.Rule11.{boundedOrder, boundedRefusal}
 use Rattle.formats.proofs.RuleKept.{bounded-numbered}
@@ -131,13 +131,13 @@ in-shape n x m s h =
 
 -- THE TWO CALLS on walks in shape and accepted sheets reply as the machines do
 pub guarded-as : (w : List ℕ) (i : Move) (s : Walk) (a : ℕ) → sheetRefusal w ≡ 0 → taskArea (task w) ≤ length (i .area)
-    → lowOf (graph w) 1 (header w .budget) ≡ some a
-    → InShape (header w .blocks) 2 (header w .budget) s → guardedReply w s i ≡ reply (monitor (graph w) (header w .budget)) s (i .choice)
+    → lowOf (graph w) 1 (budgetIn w) ≡ some a
+    → InShape (header w .blocks) 2 (budgetIn w) s → guardedReply w s i ≡ reply (monitor (graph w) (budgetIn w)) s (i .choice)
 unfolding guardedReply guardedOrder monitor
 guarded-as w i s a e room low h =
     let x : GuardedInput = record { sheet = w; area = i .area; walk = s; choice = i .choice } in
-    machine-replies (monitor (graph w) (header w .budget)) _ weighOrder weigh-numbered onGraph x (weighs w (i .area) a e room low) refl refl
-    (in-shape (header w .blocks) 2 (header w .budget) s h)
+    machine-replies (monitor (graph w) (budgetIn w)) _ weighOrder weigh-numbered onGraph x (weighs w (i .area) a e room low) refl refl
+    (in-shape (header w .blocks) 2 (budgetIn w) s h)
 
 pub bounded-as : (t : List ℕ) (s : Walk) (k : ℕ) → boundedRefusal t ≡ 0
     → InShape (readBounded t .size) (readBounded t .last) (mostMoves (heading t .budget) (s .end)) s

@@ -14,7 +14,7 @@ use Rattle.theory.specs.Copies.{copyFor, targets, add, join, spread, candidates
 use Rattle.theory.specs.Machines.{taken, replyAt, reply, answers, final}
 use Rattle.theory.specs.Walks.{startAt, endAt, mostMoves, isExit, hasEnded, monitorTake, monitor, boundedTake, boundedWalk}
 use Rattle.formats.specs.Words.{follow, unsound}
-use Rattle.formats.specs.GraphSheet.{header, costWord, chain, met, successors}
+use Rattle.formats.specs.GraphSheet.{header, budgetIn, costWord, chain, met, successors}
 use Rattle.formats.specs.GraphSheet.{short, badCounts, badLength, badBudget, costFits, badCosts, badTargets, badChains, exitChain}
 use Rattle.formats.specs.GraphSheet.{sheetOrder, countOrder}
 use Rattle.formats.specs.BoundedSheet.{firstEdge, edgeRecords, copyWords, edgeWords, edgeCount, sheetWords}
@@ -46,7 +46,7 @@ pub starred : Pinned examples
 unfolding examples paper loop twice least inBytes text lines
     any all keep each chosen isNone from member distinct equal same before isIn numberFrom refused over lentAfter outside
     within completes largest lowOf fits copyFor targets add join spread candidates startCopies copiesFrom targetNumber
-    follow unsound header costWord chain met successors
+    follow unsound header budgetIn costWord chain met successors
     short badCounts badLength badBudget costFits badCosts badTargets badChains exitChain sheetOrder
     firstEdge edgeRecords copyWords edgeWords edgeCount sheetWords
     heading copyAt chainAt targetsAt
@@ -62,7 +62,7 @@ unfolding refusals six loop least sparing dear exitChained areaWith inBytes text
     any all keep each chosen isNone from member distinct equal same before isIn numberFrom refused over lentAfter outside
     within completes largest lowOf fits copyFor targets add join spread candidates startCopies copiesFrom targetNumber
     taken replyAt reply answers final startAt endAt mostMoves isExit hasEnded monitorTake monitor boundedTake boundedWalk
-    follow unsound header costWord chain met successors
+    follow unsound header budgetIn costWord chain met successors
     short badCounts badLength badBudget costFits badCosts badTargets badChains exitChain sheetOrder
     firstEdge edgeRecords copyWords edgeWords edgeCount sheetWords
     heading copyAt chainAt targetsAt

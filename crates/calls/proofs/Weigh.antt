@@ -15,7 +15,7 @@ use Rattle.base.proofs.Truth.{not-both}
 use Rattle.base.proofs.Lists.{member-i, member-e}
 use Rattle.base.proofs.Orders.{Numbered, unrefused, passed, none-left, refused-member, over-i, over-e, over-stops}
 use Rattle.theory.specs.Completions.{lowOf}
-use Rattle.formats.specs.GraphSheet.{header, sheetOrder, sheetRefusal}
+use Rattle.formats.specs.GraphSheet.{budgetIn, header, sheetOrder, sheetRefusal}
 use Rattle.formats.proofs.Accepted.{graph-numbered}
 use Rattle.calls.specs.SheetGraph.{task, graph}
 use Rattle.calls.specs.Area.{filled}
@@ -45,7 +45,7 @@ sheet-early w n =
 
 -- the area under any other answer is filled
 pub late-area : (w area : List ℕ) (a : ℕ) → beforeWeighing a ≡ false
-    → filled (graph w) (header w .blocks) (header w .budget) area ≡ areaAfter (task w) a area
+    → filled (graph w) (header w .blocks) (budgetIn w) area ≡ areaAfter (task w) a area
 unfolding areaAfter
 late-area w area a late = rw (late, areaAfter)
 
@@ -88,7 +88,7 @@ pub record Passed (w area : List ℕ) : Type 0 where
   pub ok : sheetRefusal w ≡ 0
   pub room : taskArea (task w) ≤ length area
   pub start : ℕ
-  pub opens : lowOf (graph w) 1 (header w .budget) ≡ some start
+  pub opens : lowOf (graph w) 1 (budgetIn w) ≡ some start
 
 pub weighs-e : (i : Weighing) → refused weighOrder i ≡ 0 → Passed (i .sheet) (i .area)
 unfolding weighOrder sheetRefusal smallArea nothingFits
@@ -99,7 +99,7 @@ weighs-e i e =
     let l = some-low _ (b .0) in
     record { ok = o .0; room = ltb-false (length (i .area)) (taskArea (task (i .sheet))) (a .0); start = l .0; opens = l .1 }
 
-pub weighs : (w area : List ℕ) (a : ℕ) → sheetRefusal w ≡ 0 → taskArea (task w) ≤ length area → lowOf (graph w) 1 (header w .budget) ≡ some a
+pub weighs : (w area : List ℕ) (a : ℕ) → sheetRefusal w ≡ 0 → taskArea (task w) ≤ length area → lowOf (graph w) 1 (budgetIn w) ≡ some a
     → refused weighOrder (record { sheet = w; area = area }) ≡ 0
 unfolding weighOrder sheetRefusal smallArea nothingFits isNone
 weighs w area a e room low =

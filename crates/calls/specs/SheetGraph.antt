@@ -7,7 +7,7 @@ use Rattle.theory.specs.Completions.{Graph}
 use Rattle.theory.specs.Copies.{targets, targetNumber}
 use Rattle.theory.specs.Tasks.{Task, taskAt, copiesIn}
 use Rattle.theory.specs.Walks.{Bounded}
-use Rattle.formats.specs.GraphSheet.{Header, header, costWord, successors}
+use Rattle.formats.specs.GraphSheet.{budgetIn, Header, header, costWord, successors}
 use Rattle.formats.specs.BoundedSheet.{Row, sheetWords, heading, blockAt, targetsAt}
 
 -- the graph of a graph sheet's records, behind any header, and of the sheet
@@ -19,7 +19,7 @@ graph w = graphAt (header w) w
 
 -- THE TASK of a graph sheet: how words make one stands here alone
 abbrev pub task : List ℕ → Task
-task w = taskAt (graph w) (header w .blocks) (header w .budget)
+task w = taskAt (graph w) (header w .blocks) (budgetIn w)
 
 -- its copies
 unfoldable pub sheetCopies : List ℕ → List Copy

@@ -16,7 +16,7 @@ use Rattle.base.proofs.Orders.{Numbered, unrefused, inside-of, not-outside}
 use Rattle.base.proofs.Pigeonhole.{distinct-e, pigeonhole}
 use Rattle.formats.specs.Words.{field, follow, unsound}
 use Rattle.formats.specs.Limits.{leastWords, leastBlocks, mostBlocks, leastEdges, mostEdges, mostBudget}
-use Rattle.formats.specs.GraphSheet.{Header, header, sheetLength, costWord, firstWord, targetWord, nextWord, chain, met, successors}
+use Rattle.formats.specs.GraphSheet.{Header, header, budgetIn, sheetLength, costWord, firstWord, targetWord, nextWord, chain, met, successors}
 use Rattle.formats.specs.GraphSheet.{short, badCounts, badLength, badBudget, costFits, badCosts, badTargets, badChains, exitChain}
 use Rattle.formats.specs.GraphSheet.{sheetOrder, sheetRefusal, successorCount, Formed, Sound}
 use Rattle.formats.proofs.Chains.{follow-above, chain-length-is, follow-ends}
@@ -38,7 +38,7 @@ formed h w c l = record {
 -- A SHEET THAT IS ACCEPTED: a header that is there, a budget within its limit, and sound records
 pub record Accepted (w : List ℕ) : Type 0 where
   pub long : leastWords ≤ length w
-  pub budget : header w .budget ≤ mostBudget
+  pub budget : budgetIn w ≤ mostBudget
   pub sound : Sound (header w) w
 
 pub accepted : (w : List ℕ) → sheetRefusal w ≡ 0 → Accepted w
@@ -54,7 +54,7 @@ accepted w e =
     let a₈ = unrefused 7 _ _ w (a₇ .1) in
     record {
       long = ltb-false (length w) leastWords (a₁ .0);
-      budget = ltb-false mostBudget (header w .budget) (a₄ .0);
+      budget = ltb-false mostBudget (budgetIn w) (a₄ .0);
       sound = record {
         form = formed (header w) w (a₂ .0) (a₃ .0);
         costs = a₅ .0;

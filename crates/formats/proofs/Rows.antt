@@ -6,10 +6,10 @@ use Rattle.base.specs.Lists.{any, all, keep, each, from, member, distinct, equa
 use Rattle.base.specs.Copy.{before}
 use Rattle.base.specs.Checks.{refused, over, outside}
 use Rattle.formats.specs.Words.{follow, chainLength, unsound}
-use Rattle.formats.specs.GraphSheet.{header, costWord, firstWord, targetWord, nextWord, chain, met, successorCount}
+use Rattle.formats.specs.GraphSheet.{header, budgetIn, costWord, chain, met, successorCount}
 use Rattle.formats.specs.GraphSheet.{short, badCounts, badLength, badBudget, costFits, badCosts, badTargets, badChains, exitChain}
 use Rattle.formats.specs.GraphSheet.{sheetOrder, sheetRefusal, countOrder, countSuccessors}
-use Rattle.formats.specs.BoundedSheet.{heading, blockAt, lowAt, firstAt, targetAt, nextAt, copyAt, chainAt, targetsAt, edgePart}
+use Rattle.formats.specs.BoundedSheet.{heading, copyAt, chainAt, targetsAt, edgePart}
 use Rattle.formats.specs.Rule11.{tooShort, badLimits, wrongLength, largeBudget, badBlocks, badLows, badCopyOrder, copiesOf, notOneOf}
 use Rattle.formats.specs.Rule11.{badExit, badEdgeOrder, badTargetWords, boundedOrder, boundedRefusal, partOrder, handOut}
 use Rattle.formats.specs.File.{wordOf, wordsOf}
@@ -23,9 +23,9 @@ use Rattle.formats.specs.Refusals.{sheetShown, outcome, refusals}
 pub pinned : map (λ r. outcome (r .0)) refusals ≡ map (λ r. r .1) refusals
 unfolding refusals paper least nine inBytes text lines
     any all keep each from member distinct equal before refused over outside
-    follow chainLength unsound header costWord firstWord targetWord nextWord chain met successorCount
+    follow chainLength unsound header budgetIn costWord chain met successorCount
     short badCounts badLength badBudget costFits badCosts badTargets badChains exitChain sheetOrder sheetRefusal countOrder countSuccessors
-    heading blockAt lowAt firstAt targetAt nextAt copyAt chainAt targetsAt edgePart
+    heading copyAt chainAt targetsAt edgePart
     tooShort badLimits wrongLength largeBudget badBlocks badLows badCopyOrder copiesOf notOneOf
     badExit badEdgeOrder badTargetWords boundedOrder boundedRefusal partOrder handOut
     wordOf wordsOf digits decimal line headingLine copyLine listingOf

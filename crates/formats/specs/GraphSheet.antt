@@ -11,16 +11,21 @@ use Rattle.base.specs.Checks.{Order, refused, over, outside}
 use Rattle.formats.specs.Limits.{leastWords, leastBlocks, mostBlocks, leastEdges, mostEdges, mostBudget}
 use Rattle.formats.specs.Words.{word, field, chainLength, unsound, targetFrom, nextFrom, edgesFrom}
 
--- what the header says: N blocks, E edges, the budget B, and the word at which the records begin, counted from 0
+-- what the header says of the records: N blocks, E edges, and the word at which they begin, counted from 0
 pub record Header : Type 0 where
   pub blocks : ℕ
   pub edges : ℕ
-  pub budget : ℕ
   pub records : ℕ
+
+abbrev pub headerOf : ℕ → ℕ → ℕ → Header
+headerOf at n m = record { blocks = n; edges = m; records = at }
 
 -- "Three words: N blocks, E edges, budget B in cycles."
 unfoldable pub header : List ℕ → Header
-header w = record { blocks = word w 0; edges = word w 1; budget = word w 2; records = 3 }
+header w = headerOf 3 (word w 0) (word w 1)
+
+unfoldable pub budgetIn : List ℕ → ℕ
+budgetIn w = word w 2
 
 -- the length of a sheet with this header, "exactly 3 + 2N + 2E words": the three words of the header, "N block records of two words",
 -- "E edge records of two words"
@@ -72,6 +77,10 @@ short w = ltb (length w) leastWords
 unfoldable pub costFits : ℕ → ℕ → Bool
 costFits v c = elim (ltb v 3) [ true ↦ eqb c 0 | false ↦ ltb 0 c ]
 
+-- 4: B above 500
+unfoldable pub badBudget : List ℕ → Bool
+badBudget w = ltb mostBudget (budgetIn w)
+
 -- the others, behind any header
 module _ (h : Header) (w : List ℕ) where
   -- 2: N or E outside its limit
@@ -81,10 +90,6 @@ module _ (h : Header) (w : List ℕ) where
   -- 3: not exactly 3 + 2N + 2E words
   unfoldable pub badLength : Bool
   badLength = not (eqb (length w) (sheetLength h))
-
-  -- 4: B above 500
-  unfoldable pub badBudget : Bool
-  badBudget = ltb mostBudget (h .budget)
 
   -- 5: block 1 or 2 with a cost, or another block with cost 0
   unfoldable pub badCosts : Bool
@@ -116,7 +121,7 @@ abbrev pub sizeOrder : Order (List ℕ)
 sizeOrder = condition 3 badLength ∷ []
 
 abbrev pub budgetOrder : Order (List ℕ)
-budgetOrder = condition 4 badBudget ∷ []
+budgetOrder = (4, badBudget) ∷ []
 
 abbrev pub costOrder : Order (List ℕ)
 costOrder = condition 5 badCosts ∷ []

@@ -1,77 +1,106 @@
--- The order of the conditions in its two parts, and what the loops for 5 and 6 and for a missed edge look for.
--- Rests on Orders, Search, graph_words Formed.
-use mathlib.Core.Path.{_≡_, refl}
-use mathlib.Core.Bool.{Bool, not}
-use mathlib.Core.List.{List}
-use Prim.Native.Nat.{ℕ}
+-- The order of the conditions in its stages, and what the loops for 5 and 6 look for.
+-- Rests on base Orders and Search, formats GraphSheet and Accepted, specs Headers.
+use mathlib.Core.Path.{_≡_, refl, sym, ap, _∙_}
+use mathlib.Core.Bool.{Bool, true, false, _||_, not}
+use mathlib.Core.List.{List, [], _∷_, _++_}
+use Prim.Native.Nat.{ℕ, _+_, _*_, _≤_}
+use native.Mathlib.Omega.{arith}
+use borrow.Author.Tests.{ltb-false, eq-eqb, ne-eqb}
+use lib.ListN.{length}
 use Rattle.base.specs.Lists.{any, all, from}
-use Rattle.base.specs.Checks.{refused, outside}
-use Rattle.base.proofs.Orders.{unrefused, none-left}
-use Rattle.formats.specs.GraphSheet.{header, costWord, targetWord, short, badCounts, badLength, badBudget}
-use Rattle.formats.specs.GraphSheet.{costFits, badCosts, badTargets, badChains, exitChain, sheetOrder, sheetRefusal}
-use Rattle.graph_words.specs.Formed.{Formed}
-use Rattle.graph_words.proofs.Formed.{formed}
-use Rattle.graph_check.specs.Parts.{formOrder, recordOrder}
-use Rattle.graph_check.specs.Marks.{marked, missed}
-use Rattle.base.proofs.Orders.{pick, tested, append-stops, append-passes}
+use Rattle.base.specs.Checks.{Order, refused, outside}
+use Rattle.base.proofs.Orders.{pick, tested, none-left, unrefused, append-stops, append-passes}
 use Rattle.base.proofs.Search.{not-all}
+use Rattle.formats.specs.Limits.{leastWords, leastBlocks, mostBlocks, leastEdges, mostEdges}
+use Rattle.formats.specs.Words.{field}
+use Rattle.formats.specs.GraphSheet.{Header, headerOf, header, costWord, targetWord, edgesAt, short, badCounts, badLength, badBudget}
+use Rattle.formats.specs.GraphSheet.{costFits, badCosts, badTargets, badChains, exitChain, Formed}
+use Rattle.formats.specs.GraphSheet.{lengthOrder, countsOrder, sizeOrder, budgetOrder, costOrder, edgeOrder, sheetOrder, sheetRefusal}
+use Rattle.formats.proofs.Accepted.{formed, cost-word}
+use Rattle.graph_check.specs.Headers.{edgeStage}
+
+-- 1 to 4
+abbrev pub formOrder : Order (List ℕ)
+formOrder = lengthOrder ++ countsOrder ++ sizeOrder ++ budgetOrder
+
+-- 5, on a sheet
+abbrev costs : List ℕ → Bool
+costs w = badCosts (header w) w
 
 module _ (w : List ℕ) where
-  -- the whole order is its two parts
+  -- the whole order is the form, then 5, then 6 to 8
   pub form-refuses : (refused formOrder w ≡ 0 → ⊥) → sheetRefusal w ≡ refused formOrder w
-  unfolding sheetRefusal sheetOrder formOrder recordOrder
-  form-refuses n = append-stops formOrder recordOrder w n
+  unfolding sheetRefusal sheetOrder
+  form-refuses n = append-stops formOrder (costOrder ++ edgeOrder) w n
 
-  pub form-passes : refused formOrder w ≡ 0 → sheetRefusal w ≡ refused recordOrder w
-  unfolding sheetRefusal sheetOrder formOrder recordOrder all
-  form-passes e = append-passes formOrder recordOrder w refl e
+  pub form-passes : refused formOrder w ≡ 0 → sheetRefusal w ≡ refused (costOrder ++ edgeOrder) w
+  unfolding sheetRefusal sheetOrder all
+  form-passes e = append-passes formOrder (costOrder ++ edgeOrder) w refl e
 
-  -- each part's answer, by what its conditions say; behind one that holds they may say anything
-  pub form-answer : (a b c d : Bool) → short w ≡ a → badCounts w ≡ b → badLength w ≡ c → badBudget w ≡ d
+  -- the form's answer, by what its conditions say; behind one that holds they may say anything
+  pub form-answer : (a b c d : Bool) → short w ≡ a → badCounts (header w) w ≡ b → badLength (header w) w ≡ c → badBudget w ≡ d
       → refused formOrder w ≡ pick a 1 (pick b 2 (pick c 3 (pick d 4 0)))
-  unfolding formOrder
   form-answer a b c d p q r s =
-      tested 1 short _ w p (tested 2 badCounts _ w q (tested 3 badLength _ w r (tested 4 badBudget _ w s (none-left w))))
+      tested 1 short _ w p (tested 2 _ _ w q (tested 3 _ _ w r (tested 4 _ _ w s (none-left w))))
 
-  pub record-answer : (a b c d : Bool) → badCosts w ≡ a → badTargets w ≡ b → badChains w ≡ c → exitChain w ≡ d
-      → refused recordOrder w ≡ pick a 5 (pick b 6 (pick c 7 (pick d 8 0)))
-  unfolding recordOrder
-  record-answer a b c d p q r s =
-      tested 5 badCosts _ w p (tested 6 badTargets _ w q (tested 7 badChains _ w r (tested 8 exitChain _ w s (none-left w))))
+  -- what the conditions say of the header that was read
+  module _ {at n m : ℕ} (q : headerOf at n m ≡ header w) where
+    pub counts-are : {r : Bool} → r ≡ (outside leastBlocks mostBlocks n || outside leastEdges mostEdges m) → badCounts (header w) w ≡ r
+    unfolding badCounts
+    counts-are e = ap (λ (h : Header). badCounts h w) (sym q) ∙ sym e
 
-  -- the first part passed
-  pub form-formed : refused formOrder w ≡ 0 → Formed w
-  unfolding formOrder
+    pub length-fits : length w ≡ at + 2 * n + 2 * m → badLength (header w) w ≡ false
+    unfolding badLength
+    length-fits e = ap (λ (h : Header). badLength h w) (sym q) ∙ ap not (eq-eqb (length w) _ e)
+
+    pub length-differs : (length w ≡ at + 2 * n + 2 * m → ⊥) → badLength (header w) w ≡ true
+    unfolding badLength
+    length-differs e = ap (λ (h : Header). badLength h w) (sym q) ∙ ap not (ne-eqb (length w) _ e)
+
+  -- the form passed
+  pub form-long : refused formOrder w ≡ 0 → leastWords ≤ length w
+  unfolding short
+  form-long e = ltb-false (length w) leastWords (unrefused 0 short _ w e .0)
+
+  pub form-formed : refused formOrder w ≡ 0 → Formed (header w) w
   form-formed e =
       let a = unrefused 0 short _ w e in
-      let b = unrefused 1 badCounts _ w (a .1) in
-      let c = unrefused 2 badLength _ w (b .1) in
-      formed w (a .0) (b .0) (c .0)
+      let b = unrefused 1 _ _ w (a .1) in
+      let c = unrefused 2 _ _ w (b .1) in
+      formed (header w) w (b .0) (c .0)
+
+  -- 5, then 6 to 8, behind the header that was read
+  module _ {h : Header} (q : h ≡ header w) where
+    pub cost-refuses : badCosts h w ≡ true → 5 ≡ refused (costOrder ++ edgeOrder) w
+    cost-refuses e = sym (tested 5 costs edgeOrder w (ap (λ (x : Header). badCosts x w) (sym q) ∙ e) refl)
+
+    pub cost-passes : badCosts h w ≡ false → refused (edgeStage h) w ≡ refused (costOrder ++ edgeOrder) w
+    unfolding refused
+    cost-passes e =
+        ap (λ (x : Header). refused (edgeStage x) w) q
+        ∙ sym (tested 5 costs edgeOrder w (ap (λ (x : Header). badCosts x w) (sym q) ∙ e) refl)
+
+module _ (h : Header) (w : List ℕ) where
+  pub edge-answer : (a b c : Bool) → badTargets h w ≡ a → badChains h w ≡ b → exitChain h w ≡ c
+      → refused (edgeStage h) w ≡ pick a 6 (pick b 7 (pick c 8 0))
+  edge-answer a b c p q r = tested 6 _ _ w p (tested 7 _ _ w q (tested 8 _ _ w r (none-left w)))
 
   -- 5: a block whose cost does not fit
   abbrev pub misfit : ℕ → Bool
-  misfit v = not (costFits v (costWord (header w) w v))
+  misfit v = not (costFits v (costWord h w v))
 
-  pub costs-are : badCosts w ≡ any misfit (from 1 (header w .blocks))
+  pub costs-are : badCosts h w ≡ any misfit (from 1 (h .blocks))
   unfolding badCosts
-  costs-are = not-all (λ v. costFits v (costWord (header w) w v)) (from 1 (header w .blocks))
+  costs-are = not-all (λ v. costFits v (costWord h w v)) (from 1 (h .blocks))
 
-  pub misfit-is : (v : ℕ) {c : ℕ} {r b : Bool} → c ≡ costWord (header w) w v → r ≡ costFits v c → not r ≡ b → misfit v ≡ b
-  misfit-is v p q e = cc
+  pub misfit-is : (v : ℕ) {c : ℕ} {r b : Bool} → (1 ≤ v) × (v ≤ h .blocks) → c ≡ field w (h .records) 2 v 0 → r ≡ costFits v c → not r ≡ b
+      → misfit v ≡ b
+  misfit-is v l p q e = let k = cost-word h w v (l .0) (l .1) in cc
 
   -- 6: an edge whose target is no block that may be entered
   abbrev pub stray : ℕ → Bool
-  stray e = outside 2 (header w .blocks) (targetWord (header w) w e)
+  stray e = outside 2 (h .blocks) (targetWord h w e)
 
-  pub targets-are : badTargets w ≡ any stray (from 1 (header w .edges))
+  pub targets-are : badTargets h w ≡ any stray (from 1 (h .edges))
   unfolding badTargets
   targets-are = refl
-
-  pub stray-is : (e : ℕ) {n t : ℕ} {r b : Bool} → n ≡ header w .blocks → t ≡ targetWord (header w) w e → r ≡ outside 2 n t → r ≡ b
-      → stray e ≡ b
-  stray-is e p q s x = cc
-
--- 7: an edge that is not marked
-pub missed-are : (m : ℕ) (seen : List ℕ) → missed m seen ≡ any (λ e. not (marked seen e)) (from 1 m)
-unfolding missed
-missed-are m seen = not-all (marked seen) (from 1 m)

@@ -1,8 +1,6 @@
--- conditions 1 to 6: what the loops look for, and the two parts of the order
+-- conditions 1 to 6: what the loops look for, and the stages of the order
 pub mod Conditions
--- condition 7 by a row of marks: from-clear
-pub mod Marks
--- its two loops, turn by turn
+-- condition 7: the loop over the blocks, chain by chain
 pub mod Following
 -- the number of successors: refused, answered
 pub mod Counting

@@ -1,67 +1,82 @@
-// Public calls on a graph sheet: its conditions 1 to 8 in order, and a block's number of successors.
-// Rests on graph_words; the promises are equations with formats GraphSheet.
+// Public calls on a graph sheet: its conditions 1 to 8 in order, and a block's number of successors. The header, read once.
+// Rests on graph_words, chains; the promises are equations with formats GraphSheet.
 ghost use mathlib.Core.Path.{_≡_};
-ghost use mathlib.Core.Bool.{true, false};
-ghost use Prim.Native.Nat.{suc, _≤_};
+ghost use mathlib.Core.Bool.{_||_};
+ghost use mathlib.Core.List.{_++_};
+ghost use Prim.Native.Nat.{suc, _≤_, _<_};
 ghost use lib.ListN.{length};
-ghost use Rattle.base.specs.Checks.{refused};
-ghost use Rattle.formats.specs.Limits.{mostEdges};
-ghost use Rattle.formats.specs.Words.{chainLength};
-ghost use Rattle.formats.specs.GraphSheet.{header, nextWord, badCounts, badLength, costFits, badCosts, badTargets, badChains};
-ghost use Rattle.formats.specs.GraphSheet.{sheetRefusal, successorCount, countSuccessors};
-ghost use Rattle.graph_words.specs.Formed.{Formed};
-ghost use Rattle.graph_check.specs.Parts.{formOrder, recordOrder};
-ghost use Rattle.graph_check.specs.Marks.{Marking, missed};
-ghost use Rattle.graph_check.specs.Chains.{Inside};
-use graph_words::HEADER_WORDS;
+ghost use Rattle.base.specs.Checks.{refused, outside};
+ghost use Rattle.formats.specs.Limits.{leastWords, leastBlocks, mostBlocks, leastEdges, mostEdges, wordLimit};
+ghost use Rattle.formats.specs.GraphSheet.{headerOf, header, budgetIn, costFits, badCosts, badTargets, badChains, Formed, Sound};
+ghost use Rattle.formats.specs.GraphSheet.{lengthOrder, countsOrder, sizeOrder, budgetOrder, sheetRefusal, successorCount, countSuccessors};
+ghost use Rattle.graph_check.specs.Headers.{edgeStage};
+use chains::chain_length;
+use chains::mark_chain;
+use chains::misses;
 use graph_words::LEAST_BLOCKS;
 use graph_words::LEAST_EDGES;
+use graph_words::LEAST_WORDS;
 use graph_words::MOST_BLOCKS;
 use graph_words::MOST_BUDGET;
 use graph_words::MOST_EDGES;
-use graph_words::blocks;
-use graph_words::budget;
-use graph_words::cost_of;
-use graph_words::edges;
-use graph_words::first_of;
+use graph_words::field;
 use graph_words::is_outside;
-use graph_words::next_of;
-use graph_words::target_of;
+use graph_words::word_at;
+
+// What the header says of the records: N, E, and the word at which they begin.
+pub struct Header {
+    pub blocks: usize,
+    pub edges: usize,
+    pub records: usize,
+}
+
+// "Three words: N blocks, E edges, budget B in cycles"; the records begin behind them.
+pub fn read_header(s: &[u16]) -> Header
+    requires { ⌜ leastWords ≤ length (now s) ⌝ }
+    ensures { λ h. ⌜ headerOf (h .records) (h .blocks) (h .edges) ≡ header (now (s .entry)) ⌝ }
+    ensures { λ h. ⌜ (h .blocks < wordLimit) × (h .edges < wordLimit) × (h .records < wordLimit) ⌝ }
+{
+    let n = word_at(s, 0);
+    let m = word_at(s, 1);
+    Header {
+        blocks: n,
+        edges: m,
+        records: 3,
+    }
+}
+
+// The budget that is claimed.
+pub fn budget(s: &[u16]) -> usize
+    requires { ⌜ leastWords ≤ length (now s) ⌝ }
+    ensures { λ b. ⌜ (b ≡ budgetIn (now (s .entry))) × (b < wordLimit) ⌝ }
+{
+    word_at(s, 2)
+}
+
+// THE FORM: 1 to 4
 
 // Condition 2: N or E outside its limits.
-fn bad_counts(s: &[u16]) -> bool
-    requires { ⌜ 3 ≤ length (now s) ⌝ }
-    ensures { λ r. ⌜ r ≡ badCounts (now (s .entry)) ⌝ }
+fn bad_counts(n: usize, m: usize) -> bool
+    ensures { λ r. ⌜ r ≡ (outside leastBlocks mostBlocks n || outside leastEdges mostEdges m) ⌝ }
 {
-    let n = blocks(s);
     if is_outside(LEAST_BLOCKS, MOST_BLOCKS, n) {
         return true;
     }
-    let m = edges(s);
     is_outside(LEAST_EDGES, MOST_EDGES, m)
-}
-
-// Condition 3: not as many words as N and E say.
-fn bad_length(s: &[u16]) -> bool
-    requires { ⌜ 3 ≤ length (now s) ⌝ }
-    ensures { λ r. ⌜ r ≡ badLength (now (s .entry)) ⌝ }
-{
-    let n = blocks(s);
-    let m = edges(s);
-    s.len() != HEADER_WORDS + 2 * n + 2 * m
 }
 
 // Conditions 1 to 4, by the length and the header alone.
 fn form_answer(s: &[u16]) -> u16
-    ensures { λ r. ⌜ r ≡ refused formOrder (now (s .entry)) ⌝ }
+    ensures { λ r. ⌜ r ≡ refused (lengthOrder ++ countsOrder ++ sizeOrder ++ budgetOrder) (now (s .entry)) ⌝ }
 {
-    if s.len() < HEADER_WORDS {
+    if s.len() < LEAST_WORDS {
         return 1;
     }
-    if bad_counts(s) {
+    let h = read_header(s);
+    if bad_counts(h.blocks, h.edges) {
         return 2;
     }
-    if bad_length(s) {
+    if s.len() != h.records + 2 * h.blocks + 2 * h.edges {
         return 3;
     }
     if MOST_BUDGET < budget(s) {
@@ -69,6 +84,8 @@ fn form_answer(s: &[u16]) -> u16
     }
     0
 }
+
+// THE RECORDS: 5, and 6 to 8
 
 // Blocks 1 and 2 cost 0, every other block more.
 fn cost_fits(v: usize, c: usize) -> bool
@@ -81,14 +98,13 @@ fn cost_fits(v: usize, c: usize) -> bool
 }
 
 // Condition 5: a block whose cost does not fit.
-fn bad_costs(s: &[u16]) -> bool
-    requires { ⌜ Formed (now s) ⌝ }
-    ensures { λ r. ⌜ r ≡ badCosts (now (s .entry)) ⌝ }
+fn bad_costs(s: &[u16], at: usize, n: usize, m: usize) -> bool
+    requires { ⌜ Formed (headerOf at n m) (now s) ⌝ }
+    ensures { λ r. ⌜ r ≡ badCosts (headerOf at n m) (now (s .entry)) ⌝ }
 {
-    let n = blocks(s);
     let mut v = 1;
     while v <= n {
-        let c = cost_of(s, v);
+        let c = field(s, at, 2, v, 0);
         if !cost_fits(v, c) {
             return true;
         }
@@ -98,15 +114,14 @@ fn bad_costs(s: &[u16]) -> bool
 }
 
 // Condition 6: a target that is 0, 1 or above N.
-fn bad_targets(s: &[u16]) -> bool
-    requires { ⌜ Formed (now s) ⌝ }
-    ensures { λ r. ⌜ r ≡ badTargets (now (s .entry)) ⌝ }
+fn bad_targets(s: &[u16], at: usize, n: usize, m: usize) -> bool
+    requires { ⌜ Formed (headerOf at n m) (now s) ⌝ }
+    ensures { λ r. ⌜ r ≡ badTargets (headerOf at n m) (now (s .entry)) ⌝ }
 {
-    let n = blocks(s);
-    let m = edges(s);
+    let base = at + 2 * n;
     let mut e = 1;
     while e <= m {
-        let t = target_of(s, e);
+        let t = field(s, base, 2, e, 0);
         if is_outside(2, n, t) {
             return true;
         }
@@ -115,59 +130,17 @@ fn bad_targets(s: &[u16]) -> bool
     false
 }
 
-// Follows one chain and marks its edges; false where it meets an edge above E, or one that is marked.
-fn mark_chain(s: &[u16], seen: &mut [u8], first: usize) -> bool
-    requires { ⌜ Formed (now s) ⌝ }
-    requires { ⌜ length (now seen) ≡ suc mostEdges ⌝ }
-    ensures { λ r. ⌜ Marking (now (s .entry)) first (now (seen .entry)) (now (seen .exit)) r ⌝ }
-{
-    let m = edges(s);
-    let mut e = first;
-    let mut k = m + 1;
-    while 0 < k {
-        if e == 0 {
-            return true;
-        }
-        if m < e {
-            return false;
-        }
-        if seen[e] != 0 {
-            return false;
-        }
-        seen[e] = 1;
-        e = next_of(s, e);
-        k -= 1;
-    }
-    true
-}
-
-// An edge of 1 to m is not marked.
-fn misses(seen: &[u8], m: usize) -> bool
-    requires { ⌜ (m ≤ mostEdges) × (length (now seen) ≡ suc mostEdges) ⌝ }
-    ensures { λ r. ⌜ r ≡ missed m (now (seen .entry)) ⌝ }
-{
-    let mut e = 1;
-    while e <= m {
-        if seen[e] == 0 {
-            return true;
-        }
-        e += 1;
-    }
-    false
-}
-
 // Condition 7: following all chains meets an edge above E, or an edge twice, or misses one.
-fn bad_chains(s: &[u16]) -> bool
-    requires { ⌜ Formed (now s) ⌝ }
-    ensures { λ r. ⌜ r ≡ badChains (now (s .entry)) ⌝ }
+fn bad_chains(s: &[u16], at: usize, n: usize, m: usize) -> bool
+    requires { ⌜ Formed (headerOf at n m) (now s) ⌝ }
+    ensures { λ r. ⌜ r ≡ badChains (headerOf at n m) (now (s .entry)) ⌝ }
 {
-    let n = blocks(s);
-    let m = edges(s);
+    let base = at + 2 * n;
     let mut seen = [0u8; MOST_EDGES + 1];
     let mut v = 1;
     while v <= n {
-        let first = first_of(s, v);
-        if !mark_chain(s, &mut seen, first) {
+        let first = field(s, at, 2, v, 1);
+        if !mark_chain(s, &mut seen, base, m, first) {
             return true;
         }
         v += 1;
@@ -175,21 +148,18 @@ fn bad_chains(s: &[u16]) -> bool
     misses(&seen, m)
 }
 
-// Conditions 5 to 8 of a sheet that has its form.
-fn record_answer(s: &[u16]) -> u16
-    requires { ⌜ Formed (now s) ⌝ }
-    ensures { λ r. ⌜ r ≡ refused recordOrder (now (s .entry)) ⌝ }
+// Conditions 6 to 8 of a sheet that has its form.
+pub fn edge_answer(s: &[u16], at: usize, n: usize, m: usize) -> u16
+    requires { ⌜ Formed (headerOf at n m) (now s) ⌝ }
+    ensures { λ r. ⌜ r ≡ refused (edgeStage (headerOf at n m)) (now (s .entry)) ⌝ }
 {
-    if bad_costs(s) {
-        return 5;
-    }
-    if bad_targets(s) {
+    if bad_targets(s, at, n, m) {
         return 6;
     }
-    if bad_chains(s) {
+    if bad_chains(s, at, n, m) {
         return 7;
     }
-    if first_of(s, 2) != 0 {
+    if field(s, at, 2, 2, 1) != 0 {
         return 8;
     }
     0
@@ -203,37 +173,23 @@ pub fn check_graph(s: &[u16]) -> u16
     if a != 0 {
         return a;
     }
-    record_answer(s)
-}
-
-// The number of edges of a chain from e on, edge by edge: "zero if empty, else one more than the rest"; at most k.
-fn chain_length(s: &[u16], e: usize, k: usize) -> usize
-    requires { ⌜ Formed (now s) ⌝ }
-    requires { ⌜ k ≤ suc mostEdges ⌝ }
-    requires { ⌜ Inside (now s) k e ⌝ }
-    ensures { λ r. ⌜ (r ≡ chainLength (nextWord (header (now (s .entry))) (now (s .entry))) k e) × (r ≤ k) ⌝ }
-{
-    let mut at = e;
-    let mut count = 0;
-    while count < k {
-        if at == 0 {
-            return count;
-        }
-        at = next_of(s, at);
-        count += 1;
+    let h = read_header(s);
+    if bad_costs(s, h.records, h.blocks, h.edges) {
+        return 5;
     }
-    count
+    edge_answer(s, h.records, h.blocks, h.edges)
 }
 
-// The number of successors of block v in an accepted sheet. Below the public calls.
-pub fn successor_count(s: &[u16], v: usize) -> usize
-    requires { ⌜ sheetRefusal (now s) ≡ 0 ⌝ }
-    requires { ⌜ (1 ≤ v) × (v ≤ header (now s) .blocks) ⌝ }
-    ensures { λ r. ⌜ (r ≡ successorCount (header (now (s .entry))) (now (s .entry)) v) × (r ≤ suc mostEdges) ⌝ }
+// THE NUMBER OF SUCCESSORS
+
+// The number of successors of block v, behind a header and in records that are sound.
+fn successor_count(s: &[u16], at: usize, n: usize, m: usize, v: usize) -> usize
+    requires { ⌜ Sound (headerOf at n m) (now s) ⌝ }
+    requires { ⌜ (1 ≤ v) × (v ≤ n) ⌝ }
+    ensures { λ r. ⌜ (r ≡ successorCount (headerOf at n m) (now (s .entry)) v) × (r ≤ suc mostEdges) ⌝ }
 {
-    let m = edges(s);
-    let first = first_of(s, v);
-    chain_length(s, first, m + 1)
+    let first = field(s, at, 2, v, 1);
+    chain_length(s, at + 2 * n, m, first)
 }
 
 // The answer of a call, and the number that it counts: 0 under a refusal.
@@ -253,17 +209,16 @@ pub fn count_successors(s: &[u16], v: u16) -> Counted
             count: 0,
         };
     }
-    let n = blocks(s);
-    let b = v as usize;
-    if is_outside(1, n, b) {
+    let h = read_header(s);
+    if is_outside(1, h.blocks, v as usize) {
         return Counted {
             answer: 33,
             count: 0,
         };
     }
-    let count = successor_count(s, b);
+    let k = successor_count(s, h.records, h.blocks, h.edges, v as usize);
     Counted {
         answer: 0,
-        count: count as u16,
+        count: k as u16,
     }
 }

@@ -13,7 +13,7 @@ use Rattle.base.specs.Checks.{Order, refused, lentAfter}
 use Rattle.base.proofs.Truth.{or-false}
 use Rattle.base.proofs.Orders.{pick, tested, none-left, append-stops, append-passes, over-stops, over-passes}
 use Rattle.formats.specs.Limits.{mostCopies, mostBoundedEdges}
-use Rattle.formats.specs.GraphSheet.{header, sheetOrder, sheetRefusal}
+use Rattle.formats.specs.GraphSheet.{budgetIn, header, sheetOrder, sheetRefusal}
 use Rattle.formats.specs.BoundedSheet.{sheetWords, heading, boundedLength}
 use Rattle.formats.specs.Rule11.{boundedRefusal}
 use Rattle.formats.proofs.Accepted.{accepted, budget-fits, graph-numbered}
@@ -66,7 +66,7 @@ module _ (w area out : List ℕ) where
       no-21 : smallArea weighing ≡ false
       unfolding smallArea taskArea
       no-21 =
-          let few = few-cells w (header w .budget) ok (budget-fits w (accepted w ok)) in
+          let few = few-cells w (budgetIn w) ok (budget-fits w (accepted w ok)) in
           le-ltb (length area) (taskArea (task w)) (omega arith)
 
       no-22 : tooMany (heading (boundedSheet w)) ≡ false → smallOutput w out ≡ false

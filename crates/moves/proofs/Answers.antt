@@ -7,7 +7,7 @@ use Prim.Native.Nat.{ℕ}
 use Rattle.base.specs.Lists.{any, from, member}
 use Rattle.theory.specs.Machines.{Reply, Machine, reply}
 use Rattle.theory.specs.Walks.{Walk, InShape, mostMoves, monitor, boundedWalk}
-use Rattle.formats.specs.GraphSheet.{header, sheetRefusal}
+use Rattle.formats.specs.GraphSheet.{budgetIn, header, sheetRefusal}
 use Rattle.formats.specs.BoundedSheet.{heading}
 use Rattle.formats.specs.Rule11.{boundedOrder, boundedRefusal}
 use Rattle.formats.proofs.RuleKept.{bounded-numbered}
@@ -37,7 +37,7 @@ module _ (w area : List ℕ) (s : Walk) (k : ℕ) where
   weighing-of i = record { sheet = i .sheet; area = i .area }
 
   abbrev machine : Machine Walk ℕ
-  machine = monitor (graph w) (header w .budget)
+  machine = monitor (graph w) (budgetIn w)
 
   -- an answer, a walk and an area are those of the call
   abbrev pub Guarded : ℕ → Walk → List ℕ → Type 0
@@ -71,20 +71,20 @@ module _ (w area : List ℕ) (s : Walk) (k : ℕ) where
       pub sheet-passes : sheetRefusal w ≡ 0
       sheet-passes = passed .ok
 
-      filled-is : after ≡ filled (graph w) (header w .blocks) (header w .budget) area
+      filled-is : after ≡ filled (graph w) (header w .blocks) (budgetIn w) area
       unfolding any member from
       filled-is = area-is ∙ sym (late-area w area a (ap beforeWeighing z ∙ spared 0))
 
       late : (c : ℕ) → beforeWeighing c ≡ false → after ≡ areaAfter (task w) c area
       late c f = filled-is ∙ late-area w area c f
 
-      pub area-table : {b : ℕ} → b ≡ header w .budget → Table (graph w) (header w .blocks) b after
+      pub area-table : {b : ℕ} → b ≡ budgetIn w → Table (graph w) (header w .blocks) b after
       unfolding taskArea
-      area-table e = rw (e, filled-is) (filled-table (graph w) (header w .blocks) (header w .budget) area (passed .room))
+      area-table e = rw (e, filled-is) (filled-table (graph w) (header w .blocks) (budgetIn w) area (passed .room))
 
       -- the walk's shape, as it is tested
-      module _ {n b : ℕ} {t : Bool} (e : n ≡ header w .blocks) (f : b ≡ header w .budget) (g : t ≡ outOfShape n 2 b s) where
-        tested-is : {c : Bool} → t ≡ c → outOfShape (header w .blocks) 2 (header w .budget) s ≡ c
+      module _ {n b : ℕ} {t : Bool} (e : n ≡ header w .blocks) (f : b ≡ budgetIn w) (g : t ≡ outOfShape n 2 b s) where
+        tested-is : {c : Bool} → t ≡ c → outOfShape (header w .blocks) 2 (budgetIn w) s ≡ c
         tested-is h = rw (e, f) at (sym g ∙ h)
 
         pub shape-refused : t ≡ true → Guarded 33 s after
@@ -94,11 +94,11 @@ module _ (w area : List ℕ) (s : Walk) (k : ℕ) where
             (shape-refuses machine weighing-of weighOrder weigh-numbered onGraph input (sym q ∙ z) (tested-is h)) (late 33 (spared 33))
 
         pub in-shape : t ≡ false → InShape (header w .blocks) 2 b s
-        in-shape h = rw f (shape-of (header w .blocks) 2 (header w .budget) s (tested-is h))
+        in-shape h = rw f (shape-of (header w .blocks) 2 (budgetIn w) s (tested-is h))
 
         pub monitor-replies : t ≡ false → (m : Reply Walk) → m ≡ reply (monitor (graph w) b) s k → Guarded (m .answer) (m .after) after
         monitor-replies h m x =
-            let y : m ≡ reply (monitor (graph w) (header w .budget)) s k = rw f at x in
+            let y : m ≡ reply (monitor (graph w) (budgetIn w)) s k = rw f at x in
             let o = guarded-as w given s (passed .start) (passed .ok) (passed .room) (passed .opens) (rw f at (in-shape h)) in
             guarded m (o ∙ sym y) (late (m .answer) (ap (λ (v : Reply Walk). beforeWeighing (v .answer)) y ∙ reply-late _ s k))
 

@@ -14,7 +14,7 @@ use Rattle.base.specs.Checks.{refused, over}
 use Rattle.base.proofs.Orders.{none-left}
 use Rattle.theory.specs.Completions.{lowOf}
 use Rattle.formats.specs.Limits.{mostBudget}
-use Rattle.formats.specs.GraphSheet.{header, sheetOrder, sheetRefusal}
+use Rattle.formats.specs.GraphSheet.{budgetIn, header, sheetOrder, sheetRefusal}
 use Rattle.formats.proofs.Accepted.{accepted, blocks, budget-fits}
 use Rattle.calls.specs.SheetGraph.{task, graph}
 use Rattle.calls.specs.Area.{areaSize, filled, Table}
@@ -56,7 +56,7 @@ module _ (w area : List ℕ) where
         ∙ tested 21 smallArea _ i p (tested 9 (λ i. nothingFits (task (i .sheet))) [] i q (none-left i))
 
     -- the code's product is the length that the sheet asks for
-    module _ {n b : ℕ} (p : n ≡ header w .blocks) (q : b ≡ header w .budget) where
+    module _ {n b : ℕ} (p : n ≡ header w .blocks) (q : b ≡ budgetIn w) where
       size : n * (b + 1) ≡ areaSize (header w .blocks) b
       unfolding areaSize
       size = rw add-one (ap (λ (n : ℕ). n * suc b) p)

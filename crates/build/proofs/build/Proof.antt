@@ -8,7 +8,7 @@ use lib.ListN.{length}
 use Rattle.base.specs.Lists.{isNone}
 use Rattle.theory.specs.Completions.{lowOf}
 use Rattle.formats.specs.Limits.{mostBudget}
-use Rattle.formats.specs.GraphSheet.{header}
+use Rattle.formats.specs.GraphSheet.{budgetIn, header}
 use Rattle.calls.specs.SheetGraph.{graph}
 use Rattle.calls.specs.Area.{Table}
 use Rattle.build.specs.Within.{answerAt, outputAt}
@@ -52,7 +52,7 @@ build-weighed-requires c κs =
           subst (λ (b : ℕ). isNone (lowOf (graph w) 1 b) ≡ false) b (something-fits w area p),
         ),
         subst (λ (b : ℕ). Table (graph w) (header w .blocks) b filled) b
-            (subst (Table (graph w) (header w .blocks) (header w .budget)) (sym (e .1)) (has-table w area p)),
+            (subst (Table (graph w) (header w .blocks) (budgetIn w)) (sym (e .1)) (has-table w area p)),
       ),
     )
 
@@ -69,7 +69,7 @@ returns-2 c =
     let r = f .build-weighed .ensures in
     let a = r .0 ∙ ap (λ (b : ℕ). answerAt w b (length out)) b in
     let o = r .1 ∙ ap (λ (b : ℕ). outputAt w b (f .build-weighed .result) out) b in
-    let g = ap (λ (x : ℕ). outputAt w (header w .budget) x out) a in (
+    let g = ap (λ (x : ℕ). outputAt w (budgetIn w) x out) a in (
       a ∙ sym (passed-answer w area out p),
       (e .1 ∙ sym (passed-area w area out p), o ∙ g ∙ sym (passed-output w area out p)),
     )

@@ -1,29 +1,37 @@
--- A chain of an accepted sheet is counted from its first edge on.
+-- A chain of a sound sheet is counted from its first edge on.
 -- Rests on Counting.
+use mathlib.Core.Path.{ap, _∙_}
+use Prim.Native.Nat.{ℕ, suc}
 use native.Mathlib.Omega.{arith}
-use borrow.Author.Needs.{needs}
-use Rattle.graph_words.proofs.Formed.{formed-of}
-use Rattle.graph_check.proofs.Counting.{chain-inside, chain-counted}
+use Rattle.formats.specs.Words.{chainLength}
+use Rattle.formats.specs.GraphSheet.{headerOf, nextWord, successorCount}
+use Rattle.graph_check.proofs.Counting.{chain-inside}
 use Rattle.graph_check.proofs.successor_count.Statement.{statement}
 use Rattle.graph_check.proofs.successor_count.Tie as tie
 
-edges-requires : tie.Need-edges-requires
-edges-requires c κs = formed-of _ (c .before .pre .0) .long
+field-requires : tie.Need-field-requires
+field-requires c κs = let z = c .before in (z .pre .1 .0, omega arith, omega (arith, z .pre .0 .form .size))
 
-first-of-requires : tie.Need-first-of-requires
-first-of-requires c κs = let z = c .before .before in (formed-of _ (z .pre .0), z .pre .1)
+mul-chain-length : tie.Need-mul-chain-length
+mul-chain-length c = omega (arith, c .before .before .pre .0 .form .size)
+
+add-chain-length : tie.Need-add-chain-length
+add-chain-length c = omega (arith, c .before .before .pre .0 .form .size)
 
 chain-length-requires : tie.Need-chain-length-requires
 chain-length-requires c κs =
-    let z = c .before .before .before in
-    let f = formed-of _ (z .pre .0) in
-    (f, (omega (arith, f .edges), chain-inside _ (z .pre .0) (z .pre .1) (omega arith) (c .first-of .ensures .0)))
+    let z = c .before .before in
+    (omega (arith, z .pre .0 .form .size), chain-inside _ _ (z .pre .0) (z .pre .1) (c .field .ensures .0))
 
 returns : tie.Need-returns
+unfolding successorCount
 returns c =
-    let z = c .before .before .before .before in
-    let f = formed-of _ (z .pre .0) in
-    (chain-counted _ _ (omega arith) (c .before .first-of .ensures .0) (c .chain-length .ensures .0), omega (arith, f .edges))
+    let z = c .before .before .before in
+    let h = headerOf (z .args .at) (z .args .n) (z .args .m) in
+    (c .chain-length .ensures .0 ∙ ap (chainLength (nextWord h (z .args .s .now)) (suc (z .args .m))) (c .before .field .ensures .0),
+    omega (arith, c .chain-length .ensures .1, z .pre .0 .form .edges))
 
 pub successor-count-spec : {M : Type 1} → statement M
-successor-count-spec = tie.close (tie.spec edges-requires first-of-requires (λ c. search needs) chain-length-requires returns)
+successor-count-spec =
+    tie.close
+    (tie.spec field-requires mul-chain-length add-chain-length chain-length-requires returns)
