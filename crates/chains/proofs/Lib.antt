@@ -6,3 +6,5 @@ pub mod Following
 pub mod Counting
 -- the k-th target of a chain: Looking
 pub mod Looking
+-- the targets of a chain copied, edge by edge: Copying
+pub mod Copying

@@ -2,3 +2,5 @@
 -- Rests on base Lists, formats Words.
 -- chains followed with a row of marks: missed, unsoundFrom, Marking
 pub mod Marks
+-- words copied to a place of a row: Copied
+pub mod Copied

@@ -14,7 +14,7 @@ use Rattle.base.proofs.Truth.{or-false, all-e, any-false}
 use Rattle.base.proofs.Lists.{from-i, each-i, each-e, Distinct, distinct-part}
 use Rattle.base.proofs.Orders.{Numbered, unrefused, inside-of, not-outside}
 use Rattle.base.proofs.Pigeonhole.{distinct-e, pigeonhole}
-use Rattle.formats.specs.Words.{field, follow, unsound}
+use Rattle.formats.specs.Words.{field, follow, Inside, unsound}
 use Rattle.formats.specs.Limits.{leastWords, leastBlocks, mostBlocks, leastEdges, mostEdges, mostBudget}
 use Rattle.formats.specs.GraphSheet.{Header, header, budgetIn, sheetLength, costWord, firstWord, targetWord, nextWord, chain, met, successors}
 use Rattle.formats.specs.GraphSheet.{short, badCounts, badLength, badBudget, costFits, badCosts, badTargets, badChains, exitChain}
@@ -97,6 +97,11 @@ module _ (h : Header) (w : List ℕ) (A : Sound h w) where
       let n : List·Memᴰ e (met h w) = each-i (chain h w) (from 1 (h .blocks)) (from-i (h .blocks) 1 v p (omega arith)) m in
       let q = any-false (λ e. ltb (h .edges) e) (met h w) (or-false _ _ (A .chains) .0) n in
       (follow-above (nextWord h w) (suc (h .edges)) (firstWord h w v) e m, ltb-false (h .edges) e q)
+
+  -- so a chain stays inside
+  pub chain-inside : {v e : ℕ} → 1 ≤ v → v ≤ h .blocks → e ≡ firstWord h w v → Inside (nextWord h w) (h .edges) (suc (h .edges)) e
+  unfolding chain
+  chain-inside {v} p q f = rw f (record { is-inside = λ x m. edge-inside v x p q m .1 })
 
   -- and a chain has at most E edges, so that its fuel of E + 1 never cuts it
   chain-short : (v : ℕ) → 1 ≤ v → v ≤ h .blocks → length (chain h w v) ≤ h .edges

@@ -1,22 +1,15 @@
--- The number of successors: a sound sheet's chains stay inside it, and what a refused and an accepted call answer.
--- Rests on base Orders, formats Accepted.
+-- The number of successors: what a refused and an accepted call answer.
+-- Rests on base Orders, formats GraphSheet.
 use mathlib.Core.Path.{_≡_, refl, sym, ap, _∙_}
 use mathlib.Core.Bool.{Bool, true, false}
 use mathlib.Core.List.{List, [], _∷_}
-use Prim.Native.Nat.{ℕ, zero, suc, _≤_}
+use Prim.Native.Nat.{ℕ, zero, suc}
 use native.Mathlib.Omega.{arith}
 use Rattle.base.specs.Lists.{all}
 use Rattle.base.specs.Checks.{refused, over, outside}
 use Rattle.base.proofs.Orders.{none-left, inside-of, pick, tested, append-stops, append-passes, over-is}
-use Rattle.formats.specs.Words.{Inside}
-use Rattle.formats.specs.GraphSheet.{Header, header, firstWord, nextWord, chain, successorCount, sheetOrder, sheetRefusal, Sound}
+use Rattle.formats.specs.GraphSheet.{Header, header, successorCount, sheetOrder, sheetRefusal}
 use Rattle.formats.specs.GraphSheet.{BlockOf, countOrder, countSuccessors}
-use Rattle.formats.proofs.Accepted.{edge-inside}
-
-pub chain-inside : (h : Header) (w : List ℕ) → Sound h w → {v e : ℕ} → (1 ≤ v) × (v ≤ h .blocks) → e ≡ firstWord h w v
-    → Inside (nextWord h w) (h .edges) (suc (h .edges)) e
-unfolding chain
-chain-inside h w S {v} l q = rw q (record { is-inside = λ x m. edge-inside h w S v x (l .0) (l .1) m .1 })
 
 -- THE ANSWER
 module _ (w : List ℕ) (v : ℕ) where

@@ -1,11 +1,11 @@
 -- A chain of a sound sheet is counted from its first edge on.
--- Rests on Counting.
+-- Rests on formats Accepted.
 use mathlib.Core.Path.{ap, _∙_}
 use Prim.Native.Nat.{ℕ, suc}
 use native.Mathlib.Omega.{arith}
 use Rattle.formats.specs.Words.{chainLength}
 use Rattle.formats.specs.GraphSheet.{headerOf, nextWord, successorCount}
-use Rattle.graph_check.proofs.Counting.{chain-inside}
+use Rattle.formats.proofs.Accepted.{chain-inside}
 use Rattle.graph_check.proofs.successor_count.Statement.{statement}
 use Rattle.graph_check.proofs.successor_count.Tie as tie
 
@@ -21,7 +21,7 @@ add-chain-length c = omega (arith, c .before .before .pre .0 .form .size)
 chain-length-requires : tie.Need-chain-length-requires
 chain-length-requires c κs =
     let z = c .before .before in
-    (omega (arith, z .pre .0 .form .size), chain-inside _ _ (z .pre .0) (z .pre .1) (c .field .ensures .0))
+    (omega (arith, z .pre .0 .form .size), chain-inside _ _ (z .pre .0) (z .pre .1 .0) (z .pre .1 .1) (c .field .ensures .0))
 
 returns : tie.Need-returns
 unfolding successorCount
