@@ -1,137 +1,105 @@
--- The copies of an accepted sheet within a budget that something fits: where they lie, and that the copies of their edges are among them.
--- Rests on theory Completions and Reach, formats Accepted, graph_words Formed, calls SheetLaws, cells Cells, specs Marks.
-use mathlib.Core.Path.{_≡_, refl, sym, ap, subst, _∙_}
+-- Copies of a flat row's graph within a budget: where they lie, that their lows cover their blocks, and the look-up by its row.
+-- Rests on base Options and Cells, theory Completions and Counts, graph_row Laws, cells Cells, specs Marks.
+use mathlib.Core.Path.{_≡_, refl, sym, ap, _∙_}
 use mathlib.Core.Bool.{false}
-use mathlib.Core.List.{List, List·Memᴰ, List·Memᴰ·head, Memᴰ·map, Memᴰ·cast}
-use mathlib.Core.Option.{Option, some, none, Option·map}
+use mathlib.Core.List.{List, []}
+use mathlib.Core.Option.{some}
 use Prim.Native.Nat.{ℕ, zero, suc, _-_, _≤_, _<_}
 use native.Mathlib.Omega.{arith}
 use lib.ListN.{length, getD}
-use Rattle.base.specs.Lists.{isNone}
-use Rattle.base.specs.Copy.{copyOf}
-use Rattle.base.proofs.Truth.{not-both}
-use Rattle.theory.specs.Completions.{lowOf}
-use Rattle.theory.specs.Copies.{targets, copyFor}
-use Rattle.theory.specs.Setting.{WellFormed, Setting}
-use Rattle.theory.proofs.Completions.{low-some, covers}
-use Rattle.theory.proofs.Reach.{copy-sound, targets-in, start-in}
-use Rattle.formats.specs.GraphSheet.{header, costWord}
-use Rattle.formats.proofs.Accepted.{accepted, paid, target-inside}
-use Rattle.graph_words.specs.Formed.{Formed}
-use Rattle.graph_words.proofs.Formed.{formed-of}
-use Rattle.calls.proofs.Weigh.{some-low}
-use Rattle.calls.specs.SheetGraph.{graph}
+use Rattle.base.specs.Lists.{optionOf, isNone}
 use Rattle.base.specs.Cells.{cellOf}
-use Rattle.calls.proofs.SheetLaws.{well-formed, settingAt}
-use Rattle.cells.specs.Cells.{Within}
-use Rattle.base.proofs.Cells.{cell-inside}
-use Rattle.base.specs.Lists.{optionOf}
-use Rattle.tables.specs.Tables.{sheetCopiesAt}
+use Rattle.base.proofs.Truth.{not-both}
 use Rattle.base.proofs.Options.{option-none, option-some}
-use Rattle.descend.specs.Marks.{Due, AllDue, Ready}
+use Rattle.base.proofs.Cells.{cell-inside}
+use Rattle.theory.specs.Completions.{Completion, completes, lowOf}
+use Rattle.theory.proofs.Completions.{IsLargest, completes-sound, largest-some, covers}
+use Rattle.theory.proofs.Counts.{edge-of}
+use Rattle.graph_row.specs.GraphRow.{blocksIn, costIn, graphIn, Flat}
+use Rattle.graph_row.proofs.Laws.{cost-is}
+use Rattle.cells.specs.Cells.{Within}
+use Rattle.descend.specs.Marks.{Serves, Ready}
 
--- the copy of a number that is not 0
-pub due-copy : {w : List ℕ} {b v : ℕ} (x : ℕ) → (x ≡ 0 → ⊥) → Due w b v (optionOf x) → List·Memᴰ (copyOf v (x - 1)) (sheetCopiesAt w b)
-due-copy x n d = d .is-due (x - 1) (option-some x refl n)
+-- A PLACE for a copy: a block 1 to n, and a low up to b
+pub record Placed (n b v l : ℕ) : Type 0 where
+  pub block : (1 ≤ v) × (v ≤ n)
+  pub low : l ≤ b
 
-module _ {w : List ℕ} {b : ℕ} {lows marks : List ℕ} (R : Ready w b lows marks) where
-  laws : WellFormed (graph w)
-  laws = well-formed w (accepted w (R .ok))
+module _ {row : List ℕ} (F : Flat row) where
+  -- the exit has no successors
+  pub exit-ends : {v : ℕ} → v ≡ 2 → graphIn row .next v ≡ []
+  exit-ends e = ap (graphIn row .next) e ∙ F .laws .closed
 
-  pub formed : Formed w
-  formed = formed-of w (R .ok)
+  -- THE COPY of a number x that is not 0: its low is one less
+  module _ {b v x : ℕ} (p : (2 ≤ v) × (v ≤ blocksIn row)) (s : Serves (graphIn row) b v (optionOf x)) (n : x ≡ 0 → ⊥) where
+    pub served : Placed (blocksIn row) b v (x - 1)
+    served = record { block = omega (arith, p); low = s .small (x - 1) (option-some x refl n) }
 
-  -- the theory's setting, whose copies are those of the sheet
-  abbrev pub setting : Setting
-  setting =
-      let a = some-low (lowOf (graph w) 1 b) (R .opens) in settingAt w (accepted w (R .ok)) b (a .0) (a .1)
+    completed : Completion (graphIn row) v (x - 1)
+    completed = completes-sound (graphIn row) (F .laws) v (x - 1) (s .cost (x - 1) (option-some x refl n))
 
-  -- the cell of a block and a number up to the budget is within the limits
-  in-limits : (v l : ℕ) → (1 ≤ v) × (v ≤ header w .blocks) → l ≤ b → Within b v l
-  in-limits v l p q = record { budget = R .budget; block = omega (arith, formed .blocks); cost = q }
+    -- k is the cost of its block: the low covers it, and it is not 0 but for the exit
+    module _ {k : ℕ} (e : k ≡ costIn row v) where
+      pub cost-word : k ≡ graphIn row .cost v
+      cost-word = e ∙ sym (cost-is row v (served .block .0) (p .1))
 
-  -- A COPY has a cell for its mark, and covers the cost of its block
-  pub record Fits (v l : ℕ) : Type 0 where
-    pub place : (1 ≤ v) × (v ≤ header w .blocks)
-    pub small : l ≤ b
-    pub covered : graph w .cost v ≤ l
-    pub cell : Within b v l × (cellOf b v l < length marks)
+      pub low-covers : k ≤ x - 1
+      low-covers = omega (arith, cost-word, covers (graphIn row) (F .laws) completed)
 
-  module _ {v l : ℕ} (c : List·Memᴰ (copyOf v l) (sheetCopiesAt w b)) where
-    pub copy-fits : Fits v l
-    copy-fits =
-        let s = copy-sound setting (copyOf v l) c .1 in
-        record {
-          place = s .place;
-          small = s .small;
-          covered = covers (graph w) laws (s .cost);
-          cell = (
-            in-limits v l (s .place) (s .small),
-            omega (arith, cell-inside b (header w .blocks) v l (s .place .0) (s .place .1) (s .small), R .room),
-          );
-        }
+      pub costs-some : (v ≡ 2 → ⊥) → 1 ≤ k
+      costs-some q =
+          let t = edge-of (graphIn row) (F .laws) completed q in
+          omega (arith, cost-word, F .laws .paid v (t .0) (t .1) (λ z. omega (arith, p .0)))
 
-    -- and the copies of its edges are copies of the sheet
-    pub next-due : {r : ℕ} → r ≡ l - graph w .cost v → AllDue w b v r
-    unfolding targets copyFor
-    next-due q = subst (AllDue w b v) (sym q) (record { each-due = λ t i. record { is-due = λ a e. at t i a e } })
-      where
-        at : (t : ℕ) → List·Memᴰ t (graph w .next v) → (a : ℕ) → lowOf (graph w) t (l - graph w .cost v) ≡ some a
-            → List·Memᴰ (copyOf t a) (sheetCopiesAt w b)
-        at t i a e =
-            let r = l - graph w .cost v in
-            let s : copyFor (graph w) r t ≡ some (copyOf t a) = ap (Option·map (copyOf t)) e in
-            targets-in setting (copyOf v l) (copyOf t a) c (Memᴰ·cast (sym s) (Memᴰ·map (copyFor (graph w) r) i))
+  module _ {b : ℕ} {lows marks : List ℕ} (R : Ready (graphIn row) (blocksIn row) b lows marks) where
+    in-limits : {v l : ℕ} → Placed (blocksIn row) b v l → Within b v l
+    in-limits P = record { budget = R .budget; block = omega (arith, F .blocks, P .block); cost = P .low }
 
-  -- a block other than the start and the exit costs something
-  pub costs-some : (v : ℕ) → 3 ≤ v → v ≤ header w .blocks → 1 ≤ graph w .cost v
-  unfolding graph
-  costs-some v p q = paid w (accepted w (R .ok)) v p q
+    -- the cell of a mark
+    pub mark-cell : {v l : ℕ} → Placed (blocksIn row) b v l → Within b v l × (cellOf b v l < length marks)
+    mark-cell {v} {l} P =
+        (in-limits P, omega (arith, cell-inside b (blocksIn row) v l (P .block .0) (P .block .1) (P .low), R .room))
 
-  pub cost-is : (v : ℕ) → costWord (header w) w v ≡ graph w .cost v
-  unfolding graph
-  cost-is v = refl
+    -- THE LOOK-UP of a block by its row
+    module _ {v r : ℕ} (P : Placed (blocksIn row) b v r) where
+      pub look-cell : Within b v r × (cellOf b v r < length lows)
+      look-cell =
+          (in-limits P, omega (arith, cell-inside b (blocksIn row) v r (P .block .0) (P .block .1) (P .low), R .table .room))
 
-  -- THE LOOK-UP of a block by the row
-  module _ {v r : ℕ} (p : (1 ≤ v) × (v ≤ header w .blocks)) (l : r ≤ b) where
-    pub look-cell : Within b v r × (cellOf b v r < length lows)
-    look-cell =
-        (in-limits v r p l, omega (arith, cell-inside b (header w .blocks) v r (p .0) (p .1) l, R .table .room))
+      module _ {x : ℕ} (e : x ≡ getD lows (cellOf b v r) 0) where
+        pub look-up : optionOf x ≡ lowOf (graphIn row) v r
+        look-up = ap optionOf e ∙ R .table .cells v r (P .block .0) (P .block .1) (P .low)
 
-    pub look-up : {x : ℕ} → x ≡ getD lows (cellOf b v r) 0 → optionOf x ≡ lowOf (graph w) v r
-    look-up e = ap optionOf e ∙ R .table .cells v r (p .0) (p .1) l
+        low-of : (a : ℕ) → optionOf x ≡ some a → IsLargest (completes (graphIn row) v) r a
+        unfolding lowOf
+        low-of a q = largest-some (completes (graphIn row) v) r a (sym look-up ∙ q)
 
-    pub look-small : {x : ℕ} → x ≡ getD lows (cellOf b v r) 0 → x ≤ suc r
-    unfolding optionOf
-    look-small {x} e = go x (look-up e)
-      where
-        go : (y : ℕ) → optionOf y ≡ lowOf (graph w) v r → y ≤ suc r
-        go zero q = omega arith
-        go (suc a) q = omega (arith, low-some (graph w) laws v r a (sym q) .below)
+        pub look-small : x ≤ suc r
+        unfolding optionOf
+        look-small = go x refl
+          where
+            go : (y : ℕ) → x ≡ y → y ≤ suc r
+            go zero q = omega arith
+            go (suc a) q = omega (arith, low-of a (ap optionOf q) .below)
 
-  -- a successor is a block other than the start
-  pub successor-fits : (v t : ℕ) → List·Memᴰ t (graph w .next v) → (2 ≤ t) × (t ≤ header w .blocks)
-  unfolding graph
-  successor-fits v t i = target-inside w (accepted w (R .ok)) v t i
+        pub look-serves : Serves (graphIn row) b v (optionOf x)
+        look-serves = record { cost = λ a q. low-of a q .passes; small = λ a q. omega (arith, low-of a q .below, P .low) }
 
-  -- THE START: its number in the row, at the budget, is that of a copy of the sheet
-  pub start-fits : (1 ≤ 1) × (1 ≤ header w .blocks)
-  start-fits = omega (arith, formed .blocks)
+    -- THE START, whose number at the budget is not 0
+    pub start-place : Placed (blocksIn row) b 1 b
+    start-place = record { block = omega (arith, F .blocks); low = omega arith }
 
-  module _ {x : ℕ} (e : x ≡ getD lows (cellOf b 1 b) 0) where
-    number : optionOf x ≡ lowOf (graph w) 1 b
-    number = look-up start-fits (omega arith) e
+    module _ (opens : isNone (lowOf (graphIn row) 1 b) ≡ false) {x : ℕ} (e : x ≡ getD lows (cellOf b 1 b) 0) where
+      pub start-some : x ≡ 0 → ⊥
+      unfolding isNone
+      start-some z = not-both (ap isNone (sym (look-up start-place e) ∙ option-none x refl z)) opens
 
-    pub start-some : x ≡ 0 → ⊥
-    unfolding isNone
-    start-some z = not-both (ap isNone (sym number ∙ option-none x refl z)) (R .opens)
+      pub start-low : lowOf (graphIn row) 1 b ≡ some (x - 1)
+      start-low = sym (look-up start-place e) ∙ option-some x refl start-some
 
-    pub start-low : lowOf (graph w) 1 b ≡ some (x - 1)
-    start-low = sym number ∙ option-some x refl start-some
-
-    pub start-copy : List·Memᴰ (copyOf 1 (x - 1)) (sheetCopiesAt w b)
-    start-copy = start-in setting (record { budget = b; named = List·Memᴰ·head refl; low = x - 1; fits = start-low })
+      pub start-fits : Placed (blocksIn row) b 1 (x - 1)
+      start-fits = record { block = start-place .block; low = look-serves start-place e .small (x - 1) (option-some x refl start-some) }
 
   -- behind the start all its cycles are left
-  pub start-left : (l : ℕ) → l ≡ l - graph w .cost 1
-  start-left l = omega (arith, laws .free)
+  pub start-left : (l : ℕ) → l ≡ l - graphIn row .cost 1
+  start-left l = omega (arith, F .laws .free)

@@ -1,102 +1,130 @@
 -- The chain as the descent follows it: a successor is still to come, or its copy is marked; and the edges that are left.
--- Rests on chains Rest, specs Marks, Copies, Marks.
+-- Rests on graph_row Laws and Successors, specs Marks, Copies, Marks.
 use mathlib.Core.Path.{_≡_, refl, sym, ap, subst, _∙_}
 use mathlib.Core.Logic.{_⊎_, inl, inr, ⊎-elim}
-use mathlib.Core.List.{List, [], map, List·Memᴰ, List·Memᴰ·not-nil, List·Memᴰ·cases-cons}
-use Prim.Native.Nat.{ℕ, suc, _-_, _≤_, _<_}
+use mathlib.Core.List.{List, [], List·Memᴰ, List·Memᴰ·not-nil, List·Memᴰ·cases-cons}
+use Prim.Native.Nat.{ℕ, suc, _+_, _≤_, _<_}
 use native.Mathlib.Omega.{arith}
-use lib.ListN.{length, getD}
-use Rattle.theory.specs.Completions.{lowOf}
-use Rattle.formats.specs.GraphSheet.{header, firstWord, targetWord, nextWord}
-use Rattle.calls.specs.SheetGraph.{graph}
-use Rattle.base.specs.Cells.{cellOf}
-use Rattle.cells.specs.Cells.{Within}
+use native.Mathlib.Numerals.{add-one}
+use lib.ListN.{length, getD, drop}
+use lib.Seq.{drop-length}
 use Rattle.base.specs.Lists.{optionOf}
-use Rattle.chains.specs.Rest.{edgesFrom, targetsFrom, Rest}
-use Rattle.formats.proofs.Chains.{follow-end, follow-out}
-use Rattle.chains.proofs.Rest.{rest-start, rest-on, targets-start, targets-on, edge-fits, is-successor}
-use Rattle.descend.specs.Marks.{edgesLeft, Due, Met, AllDue, AllMet, Ready, Grown}
-use Rattle.descend.proofs.Copies.{look-cell, look-up, look-small, successor-fits}
-use Rattle.descend.proofs.Marks.{met-grows, grown-same, grown-then}
+use Rattle.base.specs.Cells.{cellOf}
+use Rattle.theory.specs.Completions.{lowOf}
+use Rattle.graph_row.specs.GraphRow.{blocksIn, startIn, degreeIn, graphIn, Flat}
+use Rattle.graph_row.proofs.Laws.{next-length}
+use Rattle.graph_row.proofs.Successors.{successor-fits, next-inside, next-mem, next-left}
+use Rattle.cells.specs.Cells.{Within}
+use Rattle.descend.specs.Marks.{edgesLeft, Met, Serves, AllMet, Grown, FromCopy, FromChain, Ready}
+use Rattle.descend.proofs.Copies.{Placed, look-cell, look-up, look-small, look-serves}
+use Rattle.descend.proofs.Marks.{met-grows, grown-same, grown-then, ready-same}
 
--- the chain of v with r cycles left, from the marks m₀ on: at the edge e, with k turns to go, and left one more than the edges that may come
-pub record Trail (w : List ℕ) (b : ℕ) (lows m₀ m : List ℕ) (v r k e left : ℕ) : Type 0 where
+-- the chain of v with r cycles left, from its i-th successor on, of d that begin at a: m₀ are the marks at its start, m those now, left one
+-- more than the edges that may come
+pub record Trail (row : List ℕ) (b : ℕ) (lows m₀ m : List ℕ) (v r a d i left : ℕ) : Type 0 where
+  pub flat : Flat row
+  pub place : (1 ≤ v) × (v ≤ blocksIn row) × (r ≤ b)
+  pub first : a ≡ startIn row v
+  pub degree : d ≡ degreeIn row v
+  pub upto : i ≤ d
   pub size : length m ≡ length m₀
-  pub ready : Ready w b lows m
-  pub grown : Grown w b m₀ m
-  pub rest : Rest w v k e
-  pub count : left ≡ edgesLeft w b m
-  pub passed : (t : ℕ) → List·Memᴰ t (graph w .next v) → List·Memᴰ t (targetsFrom w k e) ⊎ Met b m t (lowOf (graph w) t r)
+  pub ready : Ready (graphIn row) (blocksIn row) b lows m
+  pub count : left ≡ edgesLeft (graphIn row) (blocksIn row) b m
+  pub source : FromChain (graphIn row) b v r m₀ m
+  pub grown : Grown (graphIn row) b m₀ m
+  pub passed : (t : ℕ) → List·Memᴰ t (graphIn row .next v)
+      → List·Memᴰ t (drop i (graphIn row .next v)) ⊎ Met b m t (lowOf (graphIn row) t r)
 
-module _ {w : List ℕ} {b : ℕ} {lows : List ℕ} {v r : ℕ} (p : (1 ≤ v) × (v ≤ header w .blocks) × (r ≤ b)) where
-  pub trail-start : {m : List ℕ} {k e left : ℕ} → Ready w b lows m → k ≡ suc (header w .edges) → e ≡ firstWord (header w) w v
-      → left ≡ edgesLeft w b m → Trail w b lows m m v r k e left
-  trail-start {m} {k} {e} R i j n = record {
-    size = refl;
-    ready = R;
-    grown = grown-same m;
-    rest = rest-start w (R .ok) v (p .0) (p .1) k e i j;
-    count = n;
-    passed = λ t n. inl (subst (List·Memᴰ t) (targets-start w (R .ok) v (p .0) (p .1) k e i j) n);
+pub trail-start : {row : List ℕ} {b : ℕ} {lows m : List ℕ} {v r a d left : ℕ} → Flat row → (1 ≤ v) × (v ≤ blocksIn row) × (r ≤ b)
+    → Ready (graphIn row) (blocksIn row) b lows m → left ≡ edgesLeft (graphIn row) (blocksIn row) b m → a ≡ startIn row v
+    → d ≡ degreeIn row v → Trail row b lows m m v r a d 0 left
+unfolding FromChain
+trail-start {m = m} F p R e f g = record {
+  flat = F;
+  place = p;
+  first = f;
+  degree = g;
+  upto = omega arith;
+  size = refl;
+  ready = R;
+  count = e;
+  source = λ S C h k. k;
+  grown = grown-same m;
+  passed = λ t i. inl i;
+}
+
+module _ {row : List ℕ} {b : ℕ} {lows m₀ m : List ℕ} {v r a d i left : ℕ} (T : Trail row b lows m₀ m v r a d i left) where
+  block : (1 ≤ v) × (v ≤ blocksIn row)
+  block = (T .place .0, T .place .1)
+
+  -- behind the last successor all are marked
+  pub trail-end : d ≤ i → AllMet (graphIn row) b m v r
+  trail-end n = record {
+    each-met = λ t j. ⊎-elim (λ k. absurd (List·Memᴰ·not-nil (subst (List·Memᴰ t) over k))) (λ k. k) (T .passed t j);
   }
+    where
+      over : drop i (graphIn row .next v) ≡ []
+      over =
+          let q : i ≡ length (graphIn row .next v) = omega (arith, T .upto, T .degree, next-length row v (T .place .0) (T .place .1) (T .flat)) in
+          ap (λ (x : ℕ). drop x (graphIn row .next v)) q ∙ drop-length (graphIn row .next v)
 
-  module _ {m₀ m : List ℕ} {k e left : ℕ} (T : Trail w b lows m₀ m v r k e left) where
-    over : edgesFrom w k e ≡ [] → AllMet w b m v r
-    over z =
-        let none : targetsFrom w k e ≡ [] = ap (map (targetWord (header w) w)) z in
-        record {
-          each-met = λ t i. ⊎-elim (λ n. absurd (List·Memᴰ·not-nil (subst (List·Memᴰ t) none n))) (λ n. n) (T .passed t i);
-        }
+  -- ONE TURN: the successor t, and the number x of the copy that serves r cycles there
+  module _ (l : i < d) where
+    pub word-inside : a + i < length row
+    word-inside = next-inside (T .flat) v block (T .first) (T .degree) i l
 
-    pub trail-end : e ≡ 0 → AllMet w b m v r
-    trail-end z = over (follow-end (nextWord (header w) w) k e z)
+    module _ {t : ℕ} (w : t ≡ getD row (a + i) 0) where
+      successor : List·Memᴰ t (graphIn row .next v)
+      successor = next-mem (T .flat) v block (T .first) (T .degree) i l w
 
-    pub trail-out : k ≡ 0 → AllMet w b m v r
-    trail-out z = over (follow-out (nextWord (header w) w) k e z)
+      pub target-fits : (2 ≤ t) × (t ≤ blocksIn row)
+      target-fits = successor-fits (T .flat) v t successor
 
-    -- ONE TURN: the edge e, its target t, and the number x of the copy that serves r cycles there
-    module _ (l : 0 < k) (n : e ≡ 0 → ⊥) where
-      pub edge-inside : (1 ≤ e) × (e ≤ header w .edges)
-      edge-inside = edge-fits w (T .ready .ok) v (p .0) (p .1) k e (T .rest) l n
+      placed : Placed (blocksIn row) b t r
+      placed = record { block = omega (arith, target-fits); low = T .place .2 }
 
-      module _ {t : ℕ} (i : t ≡ targetWord (header w) w e) where
-        successor : List·Memᴰ t (graph w .next v)
-        successor = is-successor w (T .ready .ok) v (p .0) (p .1) k e (T .rest) l n t i
+      pub target-cell : Within b t r × (cellOf b t r < length lows)
+      target-cell = look-cell (T .flat) (T .ready) placed
 
-        pub target-fits : (2 ≤ t) × (t ≤ header w .blocks)
-        target-fits = successor-fits (T .ready) v t successor
+      module _ {x : ℕ} (j : x ≡ getD lows (cellOf b t r) 0) where
+        pub number-small : x ≤ suc r
+        number-small = look-small (T .flat) (T .ready) placed j
 
-        block : (1 ≤ t) × (t ≤ header w .blocks)
-        block = omega (arith, target-fits)
+        pub number-serves : Serves (graphIn row) b t (optionOf x)
+        number-serves = look-serves (T .flat) (T .ready) placed j
 
-        pub target-cell : Within b t r × (cellOf b t r < length lows)
-        target-cell = look-cell (T .ready) block (p .2)
+        served : optionOf x ≡ lowOf (graphIn row) t r
+        served = look-up (T .flat) (T .ready) placed j
 
-        module _ {x : ℕ} (j : x ≡ getD lows (cellOf b t r) 0) where
-          pub number-small : x ≤ suc r
-          number-small = look-small (T .ready) block (p .2) j
+        -- nothing else is marked by the visit, where it stops too
+        pub source-on : (m′ : List ℕ) → FromCopy (graphIn row) b t (optionOf x) m m′ → FromChain (graphIn row) b v r m₀ m′
+        unfolding FromChain FromCopy
+        source-on m′ f S C h k = f S C (λ a q. h t a successor (sym served ∙ q)) (T .source S C h k)
 
-          pub number-due : AllDue w b v r → Due w b t (optionOf x)
-          number-due d = subst (Due w b t) (sym (look-up (T .ready) block (p .2) j)) (d .each-due t successor)
+        -- from what the visit gives, that did not stop
+        module _ {m′ : List ℕ} {rest : ℕ} (Y : (rest ≡ edgesLeft (graphIn row) (blocksIn row) b m′)
+            × (FromCopy (graphIn row) b t (optionOf x) m m′ × ((0 < rest → Grown (graphIn row) b m m′) × (0 < rest → Met b m′ t (optionOf x)))))
+            (o : 0 < rest) where
+          met : Met b m′ t (lowOf (graphIn row) t r)
+          met = subst (Met b m′ t) served (Y .1 .1 .1 o)
 
-          -- from what the visit gives, that did not stop
-          module _ {m′ : List ℕ} {rest : ℕ} (g : (rest ≡ edgesLeft w b m′)
-              × ((0 < rest → Ready w b lows m′) × ((0 < rest → Grown w b m m′) × (0 < rest → Met b m′ t (optionOf x))))) (o : 0 < rest) where
-            met : Met b m′ t (lowOf (graph w) t r)
-            met = subst (Met b m′ t) (look-up (T .ready) block (p .2) j) (g .1 .1 .1 o)
-
-            pub trail-on : {y : ℕ} → length m′ ≡ length m → y ≡ nextWord (header w) w e → Trail w b lows m₀ m′ v r (k - 1) y rest
-            trail-on {y} s q = record {
-              size = s ∙ T .size;
-              ready = g .1 .0 o;
-              grown = grown-then (T .grown) (g .1 .1 .0 o);
-              rest = rest-on w (T .ready .ok) v (p .0) (p .1) k e (T .rest) l n y q;
-              count = g .0;
-              passed = λ u c. ⊎-elim (ahead u) (λ d. inr (met-grows (g .1 .1 .0 o) d)) (T .passed u c);
-            }
-              where
-                ahead : (u : ℕ) → List·Memᴰ u (targetsFrom w k e)
-                    → List·Memᴰ u (targetsFrom w (k - 1) y) ⊎ Met b m′ u (lowOf (graph w) u r)
-                ahead u d =
-                    ⊎-elim (λ a. inr (subst (λ (z : ℕ). Met b m′ z (lowOf (graph w) z r)) (sym a) met)) (λ a. inl a)
-                    (List·Memᴰ·cases-cons (subst (List·Memᴰ u) (targets-on w (T .ready .ok) v (p .0) (p .1) k e (T .rest) l n t y i q) d))
+          pub trail-on : length m′ ≡ length m → Trail row b lows m₀ m′ v r a d (i + 1) rest
+          trail-on q = record {
+            flat = T .flat;
+            place = T .place;
+            first = T .first;
+            degree = T .degree;
+            upto = omega arith;
+            size = q ∙ T .size;
+            ready = ready-same (T .ready) q;
+            count = Y .0;
+            source = source-on m′ (Y .1 .0);
+            grown = grown-then (T .grown) (Y .1 .1 .0 o);
+            passed = λ u c. ⊎-elim (ahead u) (λ y. inr (met-grows (Y .1 .1 .0 o) y)) (T .passed u c);
+          }
+            where
+              ahead : (u : ℕ) → List·Memᴰ u (drop i (graphIn row .next v))
+                  → List·Memᴰ u (drop (i + 1) (graphIn row .next v)) ⊎ Met b m′ u (lowOf (graphIn row) u r)
+              ahead u c =
+                  ⊎-elim (λ z. inr (subst (λ (z : ℕ). Met b m′ z (lowOf (graphIn row) z r)) (sym z) met)) (λ k. inl (rw add-one k))
+                  (List·Memᴰ·cases-cons (subst (List·Memᴰ u) (next-left (T .flat) v block (T .first) (T .degree) i l w) c))

@@ -115,13 +115,5 @@ pub fn reach(row: &[u16], lows: &[u16], marks: &mut [u8], b: usize) -> usize
     if MOST_BOUNDED_EDGES < d {
         return 0;
     }
-    follow(
-        row,
-        lows,
-        marks,
-        b,
-        1,
-        low,
-        MOST_BOUNDED_EDGES + 1 - d,
-    )
+    follow(row, lows, marks, b, 1, low, MOST_BOUNDED_EDGES + 1 - d)
 }

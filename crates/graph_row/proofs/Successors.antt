@@ -3,13 +3,18 @@
 use mathlib.Core.Path.{_≡_, refl, sym, ap, subst, _∙_}
 use mathlib.Core.Bool.{Bool, true, false}
 use mathlib.Core.List.{List, _∷_, List·Memᴰ, List·Memᴰ·not-nil}
-use Prim.Native.Nat.{ℕ, suc, _+_, _≤_, _<_}
+use Prim.Native.Nat.{ℕ, suc, _+_, _*_, _≤_, _<_}
 use native.Mathlib.Omega.{arith}
 use lib.ListN.{length, getD, drop}
 use Rattle.base.specs.Checks.{outside}
 use Rattle.base.proofs.Orders.{inside-of}
+use Rattle.formats.specs.Limits.{mostBlocks}
 use Rattle.graph_row.specs.GraphRow.{blocksIn, startIn, degreeIn, graphIn, Flat}
 use Rattle.graph_row.proofs.Laws.{next-from, target-mem}
+
+-- the words of a block stand in the row
+pub words-inside : {row : List ℕ} → Flat row → {v : ℕ} → (1 ≤ v) × (v ≤ blocksIn row) → (1 ≤ v) × (v ≤ mostBlocks) × (3 * v < length row)
+words-inside F p = (p .0, omega (arith, p .1, F .blocks), omega (arith, p .1, F .room))
 
 -- what has a successor is a block
 pub source-block : (row : List ℕ) (u t : ℕ) → List·Memᴰ t (graphIn row .next u) → (1 ≤ u) × (u ≤ blocksIn row)

@@ -12,7 +12,7 @@ use native.Mathlib.Nat.{le-refl}
 use native.Mathlib.Decide.{ℕ-discrete, decLe}
 use Rattle.base.specs.Lists.{each, from}
 use Rattle.base.specs.Copy.{Copy, copyOf, isIn}
-use Rattle.base.proofs.Lists.{each-i, each-e, keep-i, keep-e, from-i, choice-of}
+use Rattle.base.proofs.Lists.{each-i, each-e, keep-i, keep-e, from-i, from-e, choice-of}
 use Rattle.base.proofs.Copies.{isIn-mem, mem-isIn}
 use Rattle.theory.specs.Completions.{Graph, Completion, exit, step, IsLow, lowOf}
 use Rattle.theory.specs.Copies.{targets, copyFor, add, join, spread, candidates, startCopies, copiesFrom, Reached, start, along}
@@ -20,11 +20,21 @@ use Rattle.theory.specs.Setting.{WellFormed, Setting, Entry, starts, cop
 use Rattle.theory.proofs.Completions.{away, low-some, is-low, exit-cost, covers}
 use Rattle.theory.proofs.Counts.{target-of, edge-of}
 
-candidate : (n b : ℕ) (c : Copy) → (1 ≤ c .block) × (c .block ≤ n) → c .low ≤ b → List·Memᴰ c (candidates n b)
+-- the candidates are the pairs of a block 1 to n and a low up to b
+pub candidate : (n b : ℕ) (c : Copy) → (1 ≤ c .block) × (c .block ≤ n) → c .low ≤ b → List·Memᴰ c (candidates n b)
 unfolding candidates
 candidate n b c p l =
     each-i (λ v. map (copyOf v) (from 0 (suc b))) (from 1 n) (from-i n 1 (c .block) (p .0) (omega (arith, p)))
     (Memᴰ·map (copyOf (c .block)) (from-i (suc b) 0 (c .low) (omega arith) (omega arith)))
+
+pub candidate-e : (n b : ℕ) (c : Copy) → List·Memᴰ c (candidates n b) → (1 ≤ c .block) × (c .block ≤ n) × (c .low ≤ b)
+unfolding candidates
+candidate-e n b c m =
+    let r = each-e (λ v. map (copyOf v) (from 0 (suc b))) (from 1 n) m in
+    let q = Memᴰ·of-map (copyOf (r .0)) (from 0 (suc b)) (r .2) in
+    let v : r .0 ≡ c .block = ap (λ (d : Copy). d .block) (q .2) in
+    let l : q .0 ≡ c .low = ap (λ (d : Copy). d .low) (q .2) in
+    omega (arith, from-e n 1 (r .0) (r .1), from-e (suc b) 0 (q .0) (q .1))
 
 -- joining
 add-view : (d : Copy) (cs : List Copy) → ((add d cs ≡ cs) × (isIn d cs ≡ true)) ⊎ (add d cs ≡ d ∷ cs)
