@@ -53,8 +53,11 @@ pub record Heading : Type 0 where
   pub budget : ℕ
   pub records : ℕ
 
+abbrev pub headingOf : ℕ → ℕ → ℕ → ℕ → Heading
+headingOf at c f b = record { copies = c; edges = f; budget = b; records = at }
+
 unfoldable pub heading : List ℕ → Heading
-heading s = record { copies = word s 0; edges = word s 1; budget = word s 2; records = 3 }
+heading s = headingOf 3 (word s 0) (word s 1) (word s 2)
 
 -- the length of a sheet with this header, "exactly 3 + 3C + 2F words": the three words of the header, and the records
 abbrev pub boundedLength : Heading → ℕ

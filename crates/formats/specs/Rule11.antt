@@ -1,8 +1,9 @@
 -- RULE 11, clause by clause in the order of the table, and the call that hands out the edge words of one copy.
 -- Rests on base Lists, Copy and Checks, Limits, BoundedSheet.
-use mathlib.Core.Bool.{Bool, _&&_, _||_, not}
+use mathlib.Core.Path.{_≡_}
+use mathlib.Core.Bool.{Bool, false, _&&_, _||_, not}
 use mathlib.Core.List.{List, [], _∷_, _++_}
-use Prim.Native.Nat.{ℕ, zero, suc, _-_}
+use Prim.Native.Nat.{ℕ, zero, suc, _-_, _≤_}
 use lib.Dec.{ltb, eqb}
 use lib.ListN.{length}
 use Rattle.base.specs.Lists.{any, keep, each, from, equal}
@@ -72,6 +73,22 @@ boundedOrder =
 
 unfoldable pub boundedRefusal : List ℕ → ℕ
 boundedRefusal s = refused boundedOrder s
+
+-- WHAT IT LEAVES, behind any header: a row of the length that the header says, and records that keep the clauses on records
+pub record Formed (h : Heading) (s : List ℕ) : Type 0 where
+  pub copies : (leastCopies ≤ h .copies) × (h .copies ≤ mostCopies)
+  pub edges : (leastBoundedEdges ≤ h .edges) × (h .edges ≤ mostBoundedEdges)
+  pub size : length s ≡ boundedLength h
+
+pub record Ruled (h : Heading) (s : List ℕ) : Type 0 where
+  pub form : Formed h s
+  pub blocks : badBlocks h s ≡ false
+  pub lows : badLows h s ≡ false
+  pub order : badCopyOrder h s ≡ false
+  pub two : notOneOf h s 2 ≡ false
+  pub exit : badExit h s ≡ false
+  pub edges : badEdgeOrder h s ≡ false
+  pub targets : badTargetWords h s ≡ false
 
 -- HANDING OUT EDGE WORDS: "11, then 33 for a copy outside 1 to C; any refusal there gives an empty part"
 pub record CopyIn : Type 0 where

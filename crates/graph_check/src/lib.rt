@@ -1,13 +1,12 @@
-// Public calls on a graph sheet: its conditions 1 to 8 in order, and a block's number of successors. The header, read once.
-// Rests on graph_words, chains; the promises are equations with formats GraphSheet.
+// Public calls on a graph sheet: its conditions 1 to 8 in order, and a block's number of successors.
+// Rests on graph_words, headers, chains; the promises are equations with formats GraphSheet.
 ghost use mathlib.Core.Path.{_≡_};
 ghost use mathlib.Core.Bool.{_||_};
 ghost use mathlib.Core.List.{_++_};
-ghost use Prim.Native.Nat.{suc, _≤_, _<_};
-ghost use lib.ListN.{length};
+ghost use Prim.Native.Nat.{suc, _≤_};
 ghost use Rattle.base.specs.Checks.{refused, outside};
-ghost use Rattle.formats.specs.Limits.{leastWords, leastBlocks, mostBlocks, leastEdges, mostEdges, wordLimit};
-ghost use Rattle.formats.specs.GraphSheet.{headerOf, header, budgetIn, costFits, badCosts, badTargets, badChains, Formed, Sound};
+ghost use Rattle.formats.specs.Limits.{leastBlocks, mostBlocks, leastEdges, mostEdges};
+ghost use Rattle.formats.specs.GraphSheet.{headerOf, costFits, badCosts, badTargets, badChains, Formed, Sound};
 ghost use Rattle.formats.specs.GraphSheet.{lengthOrder, countsOrder, sizeOrder, budgetOrder, sheetRefusal, successorCount, countSuccessors};
 ghost use Rattle.graph_check.specs.Headers.{edgeStage};
 use chains::chain_length;
@@ -21,37 +20,8 @@ use graph_words::MOST_BUDGET;
 use graph_words::MOST_EDGES;
 use graph_words::field;
 use graph_words::is_outside;
-use graph_words::word_at;
-
-// What the header says of the records: N, E, and the word at which they begin.
-pub struct Header {
-    pub blocks: usize,
-    pub edges: usize,
-    pub records: usize,
-}
-
-// "Three words: N blocks, E edges, budget B in cycles"; the records begin behind them.
-pub fn read_header(s: &[u16]) -> Header
-    requires { ⌜ leastWords ≤ length (now s) ⌝ }
-    ensures { λ h. ⌜ headerOf (h .records) (h .blocks) (h .edges) ≡ header (now (s .entry)) ⌝ }
-    ensures { λ h. ⌜ (h .blocks < wordLimit) × (h .edges < wordLimit) × (h .records < wordLimit) ⌝ }
-{
-    let n = word_at(s, 0);
-    let m = word_at(s, 1);
-    Header {
-        blocks: n,
-        edges: m,
-        records: 3,
-    }
-}
-
-// The budget that is claimed.
-pub fn budget(s: &[u16]) -> usize
-    requires { ⌜ leastWords ≤ length (now s) ⌝ }
-    ensures { λ b. ⌜ (b ≡ budgetIn (now (s .entry))) × (b < wordLimit) ⌝ }
-{
-    word_at(s, 2)
-}
+use headers::budget;
+use headers::read_header;
 
 // THE FORM: 1 to 4
 

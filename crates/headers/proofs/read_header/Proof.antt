@@ -5,8 +5,8 @@ use mathlib.Core.Path.{ap₂}
 use Prim.Native.Nat.{ℕ}
 use native.Mathlib.Omega.{arith}
 use Rattle.formats.specs.GraphSheet.{header, headerOf}
-use Rattle.graph_check.proofs.read_header.Statement.{statement}
-use Rattle.graph_check.proofs.read_header.Tie as tie
+use Rattle.headers.proofs.read_header.Statement.{statement}
+use Rattle.headers.proofs.read_header.Tie as tie
 
 returns : tie.Need-returns
 unfolding header

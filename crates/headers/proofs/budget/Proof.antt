@@ -2,8 +2,8 @@
 -- Rests on formats GraphSheet.
 use borrow.Author.Needs.{needs}
 use Rattle.formats.specs.GraphSheet.{budgetIn}
-use Rattle.graph_check.proofs.budget.Statement.{statement}
-use Rattle.graph_check.proofs.budget.Tie as tie
+use Rattle.headers.proofs.budget.Statement.{statement}
+use Rattle.headers.proofs.budget.Tie as tie
 
 returns : tie.Need-returns
 unfolding budgetIn
