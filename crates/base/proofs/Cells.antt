@@ -1,4 +1,4 @@
--- Cells: each lies inside, and a place belongs to one block and one number.
+-- Cells: each lies inside, they rise with the number, and a place belongs to one block and one number.
 -- Rests on specs Cells.
 use mathlib.Core.Path.{_≡_}
 use Prim.Native.Nat.{ℕ, suc, _+_, _-_, _*_, _≤_, _<_}
@@ -11,6 +11,15 @@ use Rattle.base.specs.Cells.{cellOf, cellCount}
 pub cell-inside : (b n v c : ℕ) → 1 ≤ v → v ≤ n → c ≤ b → cellOf b v c < cellCount n b
 unfolding cellOf cellCount
 cell-inside b n v c p q l = omega (arith, suc-mul (v - 1) (suc b), mul-le-mul-right {m = suc (v - 1)} {n = n} (suc b) (omega arith))
+
+-- a block's cells rise with the number, and more blocks have more cells
+pub cell-rises : (b v c r : ℕ) → c ≤ r → cellOf b v c ≤ cellOf b v r
+unfolding cellOf
+cell-rises b v c r l = omega arith
+
+pub count-rises : (b v n : ℕ) → v ≤ n → cellCount v b ≤ cellCount n b
+unfolding cellCount
+count-rises b v n l = mul-le-mul-right {m = v} {n = n} (suc b) l
 
 -- a place belongs to one block and one number
 earlier : (w i j d f : ℕ) → d < w → i < j → i * w + d < j * w + f

@@ -11,7 +11,7 @@ use lib.Seq.{getD-append-add, getD-drop, take-at, drop-at}
 use Rattle.base.specs.Lists.{each, from}
 use Rattle.base.specs.Checks.{lentAfter}
 use Rattle.base.proofs.Lists.{from-length}
-use Rattle.base.proofs.Cells.{cell-inside}
+use Rattle.base.proofs.Cells.{cell-inside, cell-rises, count-rises}
 use Rattle.theory.specs.Completions.{Graph, completes}
 use Rattle.calls.specs.SheetGraph.{boundedSheet}
 use Rattle.base.specs.Cells.{cellOf, cellCount, isSet}
@@ -117,6 +117,15 @@ module _ (g : Graph) (n b : ℕ) (area : List ℕ) (room : areaSize n b ≤ leng
 pub area-cell : (n b v c : ℕ) (area : List ℕ) → 1 ≤ v → v ≤ n → c ≤ b → areaSize n b ≤ length area → HasCell area (cellOf b v c)
 unfolding areaSize
 area-cell n b v c area p q l room = omega (arith, cell-inside b n v c p q l)
+
+-- so does that of a lower cost, where that of a higher one does
+pub lower-cell : (b v c r : ℕ) (area : List ℕ) → c ≤ r → HasCell area (cellOf b v r) → HasCell area (cellOf b v c)
+lower-cell b v c r area l h = omega (arith, cell-rises b v c r l)
+
+-- fewer blocks take no more bytes
+pub fewer-blocks : (n b v : ℕ) → v ≤ n → areaSize v b ≤ areaSize n b
+unfolding areaSize
+fewer-blocks n b v l = count-rises b v n l
 
 -- FILLING: what is made of an area by clearing it and then setting cells; the bytes of its cells are 0 or 1, and the rest is untouched
 pub record Filling (n b : ℕ) (first area : List ℕ) : Type 0 where
