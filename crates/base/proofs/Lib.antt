@@ -12,5 +12,5 @@ pub mod Pigeonhole
 pub mod Search
 -- an option as a number: option-none, option-some
 pub mod Options
--- cells: cell-inside, one-cell
+-- cells: cell-inside, cell-rises, count-rises, one-cell, cell-of
 pub mod Cells

@@ -7,7 +7,7 @@ use mathlib.Core.List.{List, [], _++_, append-nil}
 use mathlib.Core.Option.{Option, some, none}
 use Prim.Native.Nat.{ℕ, _+_, _-_, _≤_}
 use native.Mathlib.Omega.{arith}
-use lib.ListN.{length, getD}
+use lib.ListN.{length}
 use Rattle.base.specs.Lists.{isNone}
 use Rattle.base.specs.Checks.{Order, refused, over}
 use Rattle.base.proofs.Truth.{not-both, else-false}
@@ -73,9 +73,7 @@ module _ (w area : List ℕ) (ok : sheetRefusal w ≡ 0) (room : taskArea (task 
       record {
         set = λ v c p q l. set-is (graph w) L v c (cell-filled (graph w) n b area room v c p q l);
         clear = λ v c p q l. clear-is (graph w) L v c (cell-filled (graph w) n b area room v c p q l);
-        rest = λ i l.
-            let e : taskArea (task w) + (i - taskArea (task w)) ≡ i = omega arith in
-            rw e at (rest-untouched (graph w) n b area room (i - taskArea (task w)));
+        rest = rest-untouched (graph w) n b area room;
         size = filled-length (graph w) n b area room;
       }
 

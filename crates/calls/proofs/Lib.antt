@@ -12,7 +12,7 @@ pub mod Weigh
 pub mod Moves
 -- demands 2 and 3 from the build's answer 0: keeps-demand2, keeps-demand3
 pub mod Demand
--- the work area's cells and the output row after a call: cell-filled, rest-untouched, output-words
+-- the work area's cells, the area while it is filled, and the output row after a call: cell-filled, set-stands, filling-filled, output-words
 pub mod Area
 -- what 9 and the work area say of a sheet's completions: nine-is-exact, build-fills
 pub mod Filled

@@ -4,7 +4,7 @@ use mathlib.Core.Path.{_≡_}
 use mathlib.Core.Bool.{Bool, true, false}
 use mathlib.Core.List.{List, map, _++_}
 use Prim.Native.Nat.{ℕ, suc, _≤_, _<_}
-use lib.ListN.{length, drop, set, replicate}
+use lib.ListN.{length, getD, drop, set, replicate}
 use Rattle.base.specs.Lists.{each, from}
 use Rattle.base.specs.Cells.{cellOf, cellCount, isSet}
 use Rattle.theory.specs.Completions.{Graph, completes}
@@ -44,6 +44,13 @@ withCell area i = set area i 1
 -- an area of which no cell is set; the rest is untouched
 unfoldable pub cleared : ℕ → ℕ → List ℕ → List ℕ
 cleared n b area = replicate (areaSize n b) 0 ++ drop (areaSize n b) area
+
+-- WHAT A FILLING KEEPS: what is made of an area by clearing its cells and then setting some has its length, the bytes of the cells are 0 or 1,
+-- and the rest is untouched
+pub record Filling (n b : ℕ) (first area : List ℕ) : Type 0 where
+  pub same : length area ≡ length first
+  pub bits : (i : ℕ) → i < areaSize n b → getD area i 0 ≤ 1
+  pub rest : (i : ℕ) → areaSize n b ≤ i → getD area i 0 ≡ getD first i 0
 
 -- an area that stands for the completion costs up to b of the blocks 1 to n
 pub record Table (g : Graph) (n b : ℕ) (area : List ℕ) : Type 0 where

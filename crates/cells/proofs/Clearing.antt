@@ -1,15 +1,16 @@
 -- A loop that clears one byte after the other, and the cleared area.
 -- Rests on calls Area.
 use mathlib.Core.Path.{_≡_, refl, sym, ap, _∙_}
-use mathlib.Core.List.{List, _++_}
-use Prim.Native.Nat.{ℕ, _+_, _-_, _*_, _≤_, _<_}
+use mathlib.Core.List.{List}
+use Prim.Native.Nat.{ℕ, _+_, _*_, _≤_, _<_}
 use native.Mathlib.Omega.{arith}
 use native.Mathlib.Decide.{decLe, ℕ-discrete}
 use native.Mathlib.Numerals.{add-one}
-use lib.ListN.{length, getD, set, drop, length-set, length-append, length-drop, replicate, length-replicate, getD-replicate, List·getD-append}
-use lib.Seq.{ext-getD, getD-set-same, getD-set-other, getD-append-add, getD-drop}
+use lib.ListN.{length, getD, set, length-set}
+use lib.Seq.{ext-getD, getD-set-same, getD-set-other}
 use Rattle.base.specs.Cells.{cellCount}
 use Rattle.calls.specs.Area.{areaSize, cleared}
+use Rattle.calls.proofs.Area.{cleared-length, cleared-rest, cleared-byte}
 
 -- the first m bytes are 0, and the others are as before
 pub record Clears (m : ℕ) (before after : List ℕ) : Type 0 where
@@ -38,25 +39,10 @@ module _ (n b : ℕ) where
   area-bytes = ap (λ (x : ℕ). n * x) (add-one b)
 
   module _ (before after : List ℕ) (room : areaSize n b ≤ length before) where
-    abbrev zeros : List ℕ
-    zeros = replicate (areaSize n b) 0
-
-    abbrev kept : List ℕ
-    kept = drop (areaSize n b) before
-
-    size : length (zeros ++ kept) ≡ length before
-    size = length-append zeros kept ∙ omega (arith, length-replicate {A = ℕ} (areaSize n b) 0, length-drop (areaSize n b) before)
-
-    at : Clears (areaSize n b) before after → (i : ℕ) → Dec (areaSize n b ≤ i) → getD after i 0 ≡ getD (zeros ++ kept) i 0
-    at C i (yes k) =
-        let e : length zeros + (i - areaSize n b) ≡ i = omega (arith, length-replicate {A = ℕ} (areaSize n b) 0) in
-        let f : areaSize n b + (i - areaSize n b) ≡ i = omega arith in
-        C .rest i k ∙ ap (λ (x : ℕ). getD before x 0) (sym f) ∙ sym (getD-drop (areaSize n b) before (i - areaSize n b) 0)
-        ∙ sym (getD-append-add zeros kept (i - areaSize n b) 0) ∙ ap (λ (x : ℕ). getD (zeros ++ kept) x 0) e
-    at C i (no k) =
-        C .clear i (omega arith) ∙ sym (getD-replicate (areaSize n b) i 0 0 (omega arith))
-        ∙ sym (List·getD-append zeros kept 0 i (omega (arith, length-replicate {A = ℕ} (areaSize n b) 0)))
+    at : Clears (areaSize n b) before after → (i : ℕ) → Dec (areaSize n b ≤ i) → getD after i 0 ≡ getD (cleared n b before) i 0
+    at C i (yes k) = C .rest i k ∙ sym (cleared-rest n b before room i k)
+    at C i (no k) = C .clear i (omega arith) ∙ sym (cleared-byte n b before room i (omega arith))
 
     pub all-clear : Clears (areaSize n b) before after → after ≡ cleared n b before
-    unfolding cleared
-    all-clear C = ext-getD 0 after (zeros ++ kept) (C .same ∙ sym size) (λ i l. at C i (decLe (areaSize n b) i))
+    all-clear C =
+        ext-getD 0 after (cleared n b before) (C .same ∙ sym (cleared-length n b before room)) (λ i l. at C i (decLe (areaSize n b) i))

@@ -1,9 +1,8 @@
 -- WHAT A LOOK-UP SAYS of the completions of a sheet's graph, for callers: what is found is the largest.
 -- Rests on theory Completions, formats Accepted, calls SheetLaws.
-use mathlib.Core.Path.{_≡_, refl, sym, ap, _∙_}
+use mathlib.Core.Path.{_≡_, sym, ap, _∙_}
 use mathlib.Core.List.{List}
-use Prim.Native.Nat.{ℕ, zero, suc, _≤_}
-use native.Mathlib.Omega.{arith}
+use Prim.Native.Nat.{ℕ, suc}
 use Rattle.theory.specs.Completions.{IsLow, lowOf}
 use Rattle.theory.proofs.Completions.{low-some}
 use Rattle.formats.specs.GraphSheet.{sheetRefusal}

@@ -1,6 +1,8 @@
--- the largest cost, as a loop from above finds it: begin, hit, miss, out
+-- the largest number that passes, number by number, and as a loop from above finds it: under-hit, under-miss; begin, hit, miss, out
 pub mod Scan
--- an area that is the table of a graph: cell-rises, table-cell, table-low
-pub mod Read
+-- a cell stored into a row: stored, others-kept
+pub mod Stored
+-- the rows, one number and one block after the other: row-on, row-end, rows-on, rows-end
+pub mod Rows
 -- what a look-up says, for callers: is-low
 pub mod Laws

@@ -1,39 +1,27 @@
 -- The row of a block by rising numbers of cycles, and the rows block by block.
--- Rests on theory Completions, calls Area, cells Cells, specs Rows, Stored.
+-- Rests on theory Completions, calls Area, base Cells, tables Tables, specs Rows, Scan, Stored.
 use mathlib.Core.Path.{_≡_, refl, sym, ap, subst, _∙_}
 use mathlib.Core.Bool.{Bool, true, false}
 use mathlib.Core.List.{List}
-use mathlib.Core.Option.{Option, none}
-use Prim.Native.Nat.{ℕ, zero, suc, _≤_, _<_}
+use Prim.Native.Nat.{ℕ, suc, _≤_, _<_}
 use native.Mathlib.Omega.{arith}
 use native.Mathlib.Decide.{ℕ-discrete}
-use native.Mathlib.Nat.{mul-le-mul-right}
 use lib.ListN.{length, getD, set, length-set}
-use Rattle.theory.specs.Completions.{Graph, largest, lowOf}
-use Rattle.theory.proofs.Completions.{largest-self, largest-agree}
-use Rattle.base.specs.Cells.{cellOf}
-use Rattle.calls.specs.Area.{areaSize, stands, Table}
-use Rattle.base.proofs.Cells.{cell-inside}
 use Rattle.base.specs.Lists.{optionOf}
-use Rattle.tables.specs.Tables.{Lows}
-use Rattle.lows.specs.Rows.{latest, Filled, RowFilled}
-use Rattle.lows.proofs.Stored.{stored, others-kept}
-
--- the largest number below r that passes a test
-unfoldable pub under : (ℕ → Bool) → ℕ → Option ℕ
-under f zero = none
-under f (suc r) = largest f r
-
-largest-miss : (f : ℕ → Bool) (r : ℕ) → f r ≡ false → largest f r ≡ under f r
-unfolding under largest
-largest-miss f zero p = rw (p, largest)
-largest-miss f (suc r) p = rw (p, largest)
+use Rattle.base.specs.Cells.{cellOf, cellCount}
+use Rattle.base.proofs.Cells.{cell-inside}
+use Rattle.theory.specs.Completions.{largest}
+use Rattle.calls.specs.Area.{stands}
+use Rattle.tables.specs.Tables.{lowIn, Lows}
+use Rattle.look.specs.Rows.{latest, Filled, RowFilled}
+use Rattle.look.proofs.Scan.{under, under-hit, under-miss}
+use Rattle.look.proofs.Stored.{stored, others-kept}
 
 -- one number more
-latest-is : (f : ℕ → Bool) (last r : ℕ) (h : Bool) → f r ≡ h → optionOf last ≡ under f r → optionOf (latest last r h) ≡ largest f r
-unfolding latest optionOf
-latest-is f last r true p e = sym (largest-self f r p)
-latest-is f last r false p e = e ∙ sym (largest-miss f r p)
+latest-is : (f : ℕ → Bool) (last r : ℕ) (h : Bool) → f r ≡ h → optionOf last ≡ under f r → optionOf (latest last r h) ≡ under f (suc r)
+unfolding latest
+latest-is f last r true p e = sym (under-hit f r p)
+latest-is f last r false p e = e ∙ sym (under-miss f r p)
 
 -- an entry is small enough for a word
 pub latest-small : (last r : ℕ) (h : Bool) → last ≤ r → latest last r h ≤ suc r
@@ -50,7 +38,7 @@ pub record Filling (area : List ℕ) (b v : ℕ) (lows₀ lows : List ℕ) (last
   pub kept : (u d : ℕ) → 1 ≤ u → (u ≡ v → ⊥) → d ≤ b → getD lows (cellOf b u d) 0 ≡ getD lows₀ (cellOf b u d) 0
 
 -- a row lies where the rows up to it have room
-pub in-row : (b v r k : ℕ) → 1 ≤ v → r ≤ b → areaSize v b ≤ k → cellOf b v r < k
+pub in-row : (b v r k : ℕ) → 1 ≤ v → r ≤ b → cellCount v b ≤ k → cellOf b v r < k
 in-row b v r k p l h = omega (arith, cell-inside b v v r p (omega arith) l)
 
 module _ {area : List ℕ} {b v : ℕ} where
@@ -66,7 +54,7 @@ module _ {area : List ℕ} {b v : ℕ} where
 
   module _ {lows₀ lows : List ℕ} {last r : ℕ} (F : Filling area b v lows₀ lows last r) where
     -- one turn fills the entry of r
-    pub row-on : 1 ≤ v → r ≤ b → areaSize v b ≤ length lows₀ → {hit : Bool} {x : ℕ} {lows′ : List ℕ} → hit ≡ stands b area v r
+    pub row-on : 1 ≤ v → r ≤ b → cellCount v b ≤ length lows₀ → {hit : Bool} {x : ℕ} {lows′ : List ℕ} → hit ≡ stands b area v r
         → x ≡ latest last r hit → lows′ ≡ set lows (cellOf b v r) x → (q : ℕ) → q ≡ suc r → Filling area b v lows₀ lows′ x q
     unfolding under
     row-on p l room {hit} {x} {lows′} h i e q j =
@@ -105,11 +93,6 @@ pub record AllFilled (area : List ℕ) (n b : ℕ) (lows₀ lows : List ℕ) (v 
   pub range : (1 ≤ v) × (v ≤ suc n)
   pub rows : (u : ℕ) → 1 ≤ u → u < v → Filled area b u lows
 
--- where the rows of all blocks have room, those up to v have
-pub row-fits : (n b v k : ℕ) → v ≤ n → areaSize n b ≤ k → areaSize v b ≤ k
-unfolding areaSize
-row-fits n b v k l h = omega (arith, mul-le-mul-right {m = v} {n = n} (suc b) l)
-
 module _ {area : List ℕ} {n b : ℕ} where
   pub rows-start : (lows : List ℕ) → AllFilled area n b lows lows 1
   rows-start lows = record { size = refl; range = omega arith; rows = λ u p l. absurd (omega arith) }
@@ -126,10 +109,7 @@ module _ {area : List ℕ} {n b : ℕ} where
         go u p k (yes z) = subst (λ (y : ℕ). Filled area b y lows′) (sym z) (f .row)
         go u p k (no z) = f .kept u p z (A .rows u p (omega arith))
 
-    -- the rows are the look-up, where the area stands for the completion costs
-    pub rows-end : (g : Graph) → Table g n b area → areaSize n b ≤ length lows₀ → n < v → Lows g n b lows
-    unfolding Filled lowOf
-    rows-end g T room l = record {
-      room = omega (arith, A .size);
-      cells = λ u r p q k. A .rows u p (omega arith) r k ∙ largest-agree _ _ r (λ c i. T .cells u c p q (omega arith));
-    }
+    -- the rows are the look-up
+    pub rows-end : cellCount n b ≤ length lows₀ → n < v → Lows (lowIn b area) n b lows
+    unfolding Filled
+    rows-end room l = record { room = omega (arith, A .size); cells = λ u r p q k. A .rows u p (omega arith) r k }

@@ -1,3 +1,3 @@
 -- What the contracts below `fill_lows` cite.
--- Rests on theory Completions, calls Area, tables Tables.
+-- Rests on base Lists and Cells, theory Completions, calls Area.
 pub mod Rows

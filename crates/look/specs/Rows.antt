@@ -1,5 +1,5 @@
 -- One block's row: its entry at r is the largest cost at or below r that the work area has for the block.
--- Rests on theory Completions, calls Area, tables Tables.
+-- Rests on base Lists and Cells, theory Completions, calls Area.
 use mathlib.Core.Path.{_≡_}
 use mathlib.Core.Bool.{Bool, true, false}
 use mathlib.Core.List.{List}

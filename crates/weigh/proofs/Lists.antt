@@ -12,13 +12,12 @@ use lib.Dec.{eqb}
 use lib.ListN.{length, getD}
 use Rattle.base.proofs.Truth.{not-both}
 use Rattle.theory.specs.Completions.{Graph}
-use Rattle.base.specs.Cells.{cellOf}
-use Rattle.base.specs.Cells.{cellCount}
+use Rattle.base.specs.Cells.{cellOf, cellCount}
 use Rattle.cells.specs.Cells.{Within}
 use Rattle.base.proofs.Cells.{cell-inside}
 use Rattle.weigh.specs.Lists.{Source, Listing, Newest, Lists}
 
--- a square has room for short lists
+-- a square has room for short lists: for callers
 pub few-places : (n r m : ℕ) → n ≤ m → suc r ≤ m → cellCount n r ≤ m * m
 unfolding cellCount
 few-places n r m p q = mul-le-mul {n₁ = n} {m₁ = suc r} {n₂ = m} {m₂ = m} p q

@@ -6,28 +6,33 @@ use mathlib.Core.List.{List, List·Memᴰ}
 use Prim.Native.Nat.{ℕ, _+_, _≤_, _<_}
 use native.Mathlib.Omega.{arith}
 use native.Mathlib.Decide.{ℕ-discrete}
-use lib.ListN.{getD, set}
+use lib.ListN.{getD}
 use Rattle.theory.specs.Completions.{Graph, step, completes}
 use Rattle.theory.proofs.Completions.{completes-sound, completes-complete}
 use Rattle.base.specs.Cells.{cellOf}
-use Rattle.calls.specs.Area.{byteOf}
+use Rattle.calls.specs.Area.{stands, withCell}
 use Rattle.weigh.specs.Joined.{Joined}
 use Rattle.weigh.specs.Lists.{Lists}
 use Rattle.weigh.specs.States.{Fair, Wider, Reached, Spread}
-use Rattle.weigh.proofs.Written.{kept-then, set-here, set-stays, set-kept, set-fair}
+use Rattle.weigh.proofs.Written.{wrote-here, wrote-stays, wrote-same, wrote-filling, wrote-fair}
 
 -- MORE CELLS SET
 pub wider-then : {g : Graph} {n b : ℕ} {first area after : List ℕ} → Wider g n b first area → Wider g n b area after
     → Wider g n b first after
-wider-then K M = record { fair = M .fair; kept = kept-then (K .kept) (M .kept); stays = λ i e. M .stays i (K .stays i e) }
+wider-then K M = record {
+  fair = M .fair;
+  same = M .same ∙ K .same;
+  filling = λ f F. M .filling f (K .filling f F);
+  stays = λ v c e. M .stays v c (K .stays v c e);
+}
 
 pub reached-on : {g : Graph} {n b : ℕ} {area after : List ℕ} → Wider g n b area after → (u c : ℕ) → Reached g b area u c → Reached g b after u c
 unfolding Reached
-reached-on M u c h l = M .stays _ (h l)
+reached-on M u c h l = M .stays u _ (h l)
 
 module _ {g : Graph} {n b : ℕ} {area : List ℕ} (F : Fair g n b area) where
   pub same-wide : Wider g n b area area
-  same-wide = record { fair = F; kept = record { same = refl; rest = λ i l. refl }; stays = λ i e. e }
+  same-wide = record { fair = F; same = refl; filling = λ f G. G; stays = λ v c e. e }
 
   -- u's cell, at d: its cost and c
   module _ (u c : ℕ) {d : ℕ} (q : d ≡ g .cost u + c) where
@@ -36,21 +41,21 @@ module _ {g : Graph} {n b : ℕ} {area : List ℕ} (F : Fair g n b area) where
     beyond l k = absurd (omega arith)
 
     module _ (p : (1 ≤ u) × (u ≤ n)) (m : completes g u (g .cost u + c) ≡ true) (l : d ≤ b) {after : List ℕ}
-        (s : after ≡ set area (cellOf b u d) (byteOf true)) where
+        (s : after ≡ withCell area (cellOf b u d)) where
       dear : completes g u d ≡ true
       dear = ap (λ (x : ℕ). completes g u x) q ∙ m
 
       pub wrote : Wider g n b area after
       wrote = record {
-        fair = set-fair (F .ready) (F .cells) u d p l dear s (set-stays (F .ready) (F .cells) u d p l dear s _ (F .exit));
-        kept = set-kept (F .ready) (F .cells) u d p l dear s;
-        stays = set-stays (F .ready) (F .cells) u d p l dear s;
+        fair = wrote-fair (F .ready) (F .cells) u d p l dear s (wrote-stays (F .ready) (F .cells) u d p l dear s 2 0 (F .exit));
+        same = wrote-same (F .ready) (F .cells) u d p l dear s;
+        filling = wrote-filling (F .ready) (F .cells) u d p l dear s;
+        stays = wrote-stays (F .ready) (F .cells) u d p l dear s;
       }
 
       pub wrote-reached : Reached g b after u c
       unfolding Reached
-      wrote-reached k =
-          ap (λ (x : ℕ). getD after (cellOf b u x) 0) (sym q) ∙ set-here (F .ready) (F .cells) u d p l dear s
+      wrote-reached k = ap (λ (x : ℕ). stands b after u x) (sym q) ∙ wrote-here (F .ready) (F .cells) u d p l dear s
 
 -- v's cost c is passed on to the first i blocks of v's list
 pub record Spreading (g : Graph) (n b : ℕ) (lists : List ℕ) (r v c : ℕ) (first area : List ℕ) (i : ℕ) : Type 0 where

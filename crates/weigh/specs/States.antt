@@ -1,15 +1,13 @@
--- The work area while it is filled: what is asked of it, which cells are right, and what is kept.
+-- The work area while it is filled: what is asked of it, which costs it stands for, and what is kept.
 -- Rests on theory Completions, formats Limits, calls Area, Joined. A graph g of the blocks 1 to n, and the budget b.
 use mathlib.Core.Path.{_≡_}
-use mathlib.Core.Logic.{_⊎_}
 use mathlib.Core.Bool.{true}
 use mathlib.Core.List.{List, List·Memᴰ}
 use Prim.Native.Nat.{ℕ, _+_, _≤_, _<_}
-use lib.ListN.{length, getD}
+use lib.ListN.{length}
 use Rattle.theory.specs.Completions.{Graph, completes}
 use Rattle.formats.specs.Limits.{mostBudget}
-use Rattle.base.specs.Cells.{cellOf}
-use Rattle.calls.specs.Area.{areaSize, byteOf}
+use Rattle.calls.specs.Area.{areaSize, stands, Filling}
 use Rattle.weigh.specs.Joined.{Joined}
 
 -- a graph of n blocks, a budget within its limit, and an area with room for both
@@ -18,45 +16,23 @@ pub record Ready (g : Graph) (n b : ℕ) (area : List ℕ) : Type 0 where
   pub budget : b ≤ mostBudget
   pub room : areaSize n b ≤ length area
 
--- the length and what lies behind the cells are as before
-pub record Kept (n b : ℕ) (before after : List ℕ) : Type 0 where
-  pub same : length after ≡ length before
-  pub rest : (i : ℕ) → areaSize n b ≤ i → getD after i 0 ≡ getD before i 0
-
--- the first m bytes are 0, and the others are as before
-pub record Cleared (m : ℕ) (before after : List ℕ) : Type 0 where
-  pub same : length after ≡ length before
-  pub clear : (i : ℕ) → i < m → getD after i 0 ≡ 0
-  pub rest : (i : ℕ) → m ≤ i → getD after i 0 ≡ getD before i 0
-
--- the cell of v and c is clear, or set and of a completion cost
-abbrev pub FairCell : Graph → ℕ → List ℕ → ℕ → ℕ → Type 0
-FairCell g b area v c = (getD area (cellOf b v c) 0 ≡ 0) ⊎ ((getD area (cellOf b v c) 0 ≡ 1) × (completes g v c ≡ true))
-
--- so is every cell, and the exit's is set
+-- it stands for the exit's cost 0, and for no cost that is no completion cost
 pub record Fair (g : Graph) (n b : ℕ) (area : List ℕ) : Type 0 where
   pub ready : Ready g n b area
-  pub exit : getD area (cellOf b 2 0) 0 ≡ 1
-  pub cells : (v c : ℕ) → 1 ≤ v → v ≤ n → c ≤ b → FairCell g b area v c
+  pub exit : stands b area 2 0 ≡ true
+  pub cells : (v c : ℕ) → 1 ≤ v → v ≤ n → c ≤ b → stands b area v c ≡ true → completes g v c ≡ true
 
--- some more cells are set
+-- it stands for some more costs, and was made of the same area
 pub record Wider (g : Graph) (n b : ℕ) (before after : List ℕ) : Type 0 where
   pub fair : Fair g n b after
-  pub kept : Kept n b before after
-  pub stays : (i : ℕ) → getD before i 0 ≡ 1 → getD after i 0 ≡ 1
+  pub same : length after ≡ length before
+  pub filling : (first : List ℕ) → Filling n b first before → Filling n b first after
+  pub stays : (v c : ℕ) → stands b before v c ≡ true → stands b after v c ≡ true
 
 module _ (g : Graph) (b : ℕ) (area : List ℕ) where
-  -- the cell of v and c is right
-  abbrev pub Right : ℕ → ℕ → Type 0
-  Right v c = getD area (cellOf b v c) 0 ≡ byteOf (completes g v c)
-
-  -- all cells of the blocks 1 to n are
-  unfoldable pub Done : ℕ → Type 0
-  Done n = (v c : ℕ) → 1 ≤ v → v ≤ n → c ≤ b → Right v c
-
-  -- u's cell at c more than its cost is set, where the budget has it
+  -- it stands for u's own cost and c, where the budget has both
   unfoldable pub Reached : ℕ → ℕ → Type 0
-  Reached u c = g .cost u + c ≤ b → getD area (cellOf b u (g .cost u + c)) 0 ≡ 1
+  Reached u c = g .cost u + c ≤ b → stands b area u (g .cost u + c) ≡ true
 
   -- v's cost c is passed on
   unfoldable pub Spread : ℕ → ℕ → Type 0

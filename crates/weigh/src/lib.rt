@@ -9,13 +9,14 @@ ghost use lib.ListN.{length, getD};
 ghost use Rattle.theory.specs.Completions.{completes};
 ghost use Rattle.formats.specs.Limits.{mostBudget};
 ghost use Rattle.base.specs.Cells.{cellCount};
-ghost use Rattle.calls.specs.Area.{areaSize, filled};
+ghost use Rattle.calls.specs.Area.{Filling, filled};
 ghost use Rattle.graph_row.specs.GraphRow.{blocksIn, graphIn, Flat};
 ghost use Rattle.weigh.specs.Lists.{Listing, Pushed, Newest, Sources, Lists};
-ghost use Rattle.weigh.specs.States.{Ready, Kept, Cleared, Fair, Wider, Reached, Spread, Passed};
+ghost use Rattle.weigh.specs.States.{Ready, Fair, Wider, Reached, Spread, Passed};
+use cells::clear_cells;
 use cells::is_set;
 use cells::place;
-use cells::put;
+use cells::set_cell;
 use graph_row::blocks_in;
 use graph_row::cost_in;
 use graph_row::degree_in;
@@ -92,28 +93,16 @@ fn list_all(row: &[u16], lists: &mut [u8], counts: &mut [u8], r: usize)
     }
 }
 
-// Clears the cells.
-fn clear(area: &mut [u8], m: usize)
-    requires { ⌜ m ≤ length (now area) ⌝ }
-    ensures { λ _. ⌜ Cleared m (now (area .entry)) (now (area .exit)) ⌝ }
-{
-    let mut i = 0;
-    while i < m {
-        area[i] = 0;
-        i += 1;
-    }
-}
-
 // Only the exit's cost 0 is set.
 fn begin(row: &[u16], area: &mut [u8], b: usize)
     requires { ⌜ Flat (now row) ⌝ }
     requires { ⌜ Ready (graphIn (now row)) (blocksIn (now row)) b (now area) ⌝ }
-    ensures { λ _. ⌜ Kept (blocksIn (now (row .entry))) b (now (area .entry)) (now (area .exit)) ⌝ }
+    ensures { λ _. ⌜ Filling (blocksIn (now (row .entry))) b (now (area .entry)) (now (area .exit)) ⌝ }
     ensures { λ _. ⌜ Fair (graphIn (now (row .entry))) (blocksIn (now (row .entry))) b (now (area .exit)) ⌝ }
 {
     let n = blocks_in(row);
-    clear(area, n * (b + 1));
-    put(area, b, 2, 0, true);
+    clear_cells(area, n, b);
+    set_cell(area, b, 2, 0);
 }
 
 // Sets u's cell at c more than its cost, where the budget has that.
@@ -129,7 +118,7 @@ fn reach(row: &[u16], area: &mut [u8], b: usize, u: usize, c: usize)
     if b < d {
         return;
     }
-    put(area, b, u, d, true);
+    set_cell(area, b, u, d);
 }
 
 // v's cost c, passed on to every block of its list.
@@ -227,8 +216,9 @@ fn weigh_costs(row: &[u16], lists: &[u8], counts: &[u8], r: usize, area: &mut [u
     }
 }
 
-// With lists that are lent.
-fn weigh_with(row: &[u16], lists: &mut [u8], r: usize, area: &mut [u8], b: usize)
+// Fills the area for the budget b: by rising costs each set cell passes its cost on to the blocks before its block. What lies behind the cells stays.
+// The lists are lent, with r + 1 places for each block.
+pub fn weigh(row: &[u16], lists: &mut [u8], r: usize, area: &mut [u8], b: usize)
     requires { ⌜ Flat (now row) ⌝ }
     requires { ⌜ Ready (graphIn (now row)) (blocksIn (now row)) b (now area) ⌝ }
     requires { ⌜ (blocksIn (now row) ≤ suc r) × (r ≤ mostBudget) × (cellCount (blocksIn (now row)) r ≤ length (now lists)) ⌝ }
@@ -238,39 +228,4 @@ fn weigh_with(row: &[u16], lists: &mut [u8], r: usize, area: &mut [u8], b: usize
     list_all(row, lists, &mut counts, r);
     begin(row, area, b);
     weigh_costs(row, lists, &counts, r, area, b);
-}
-
-const SMALL: usize = 32;
-
-// Few blocks have short lists.
-fn weigh_small(row: &[u16], area: &mut [u8], b: usize)
-    requires { ⌜ Flat (now row) ⌝ }
-    requires { ⌜ Ready (graphIn (now row)) (blocksIn (now row)) b (now area) ⌝ }
-    requires { ⌜ blocksIn (now row) ≤ 32 ⌝ }
-    ensures { λ _. ⌜ now (area .exit) ≡ filled (graphIn (now (row .entry))) (blocksIn (now (row .entry))) b (now (area .entry)) ⌝ }
-{
-    let mut lists = [0u8; SMALL * SMALL];
-    weigh_with(row, &mut lists, SMALL - 1, area, b);
-}
-
-fn weigh_large(row: &[u16], area: &mut [u8], b: usize)
-    requires { ⌜ Flat (now row) ⌝ }
-    requires { ⌜ Ready (graphIn (now row)) (blocksIn (now row)) b (now area) ⌝ }
-    ensures { λ _. ⌜ now (area .exit) ≡ filled (graphIn (now (row .entry))) (blocksIn (now (row .entry))) b (now (area .entry)) ⌝ }
-{
-    let mut lists = [0u8; MOST_BLOCKS * MOST_BLOCKS];
-    weigh_with(row, &mut lists, MOST_BLOCKS - 1, area, b);
-}
-
-// Fills the area for the budget b: by rising costs each set cell passes its cost on to the blocks before its block. What lies behind the cells stays.
-pub fn weigh(row: &[u16], area: &mut [u8], b: usize)
-    requires { ⌜ Flat (now row) ⌝ }
-    requires { ⌜ (b ≤ mostBudget) × (areaSize (blocksIn (now row)) b ≤ length (now area)) ⌝ }
-    ensures { λ _. ⌜ now (area .exit) ≡ filled (graphIn (now (row .entry))) (blocksIn (now (row .entry))) b (now (area .entry)) ⌝ }
-{
-    if blocks_in(row) <= SMALL {
-        weigh_small(row, area, b);
-        return;
-    }
-    weigh_large(row, area, b);
 }

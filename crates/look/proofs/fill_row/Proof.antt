@@ -1,12 +1,13 @@
--- `lows::fill_row` fills one row; each turn fills one entry more.
--- Rests on Rows.
+-- `look::fill_row` fills one row; each turn fills one entry more.
+-- Rests on calls Area, Rows.
 use Prim.Native.Nat.{_+_, _-_}
 use native.Mathlib.Omega.{arith}
 use native.Mathlib.Numerals.{add-one}
 use borrow.Author.Needs.{needs}
-use Rattle.lows.proofs.Rows.{Filling, in-row, latest-small, row-start, row-on, row-end}
-use Rattle.lows.proofs.fill_row.Statement.{statement}
-use Rattle.lows.proofs.fill_row.Tie as tie
+use Rattle.calls.proofs.Area.{area-cell}
+use Rattle.look.proofs.Rows.{Filling, in-row, latest-small, row-start, row-on, row-end}
+use Rattle.look.proofs.fill_row.Statement.{statement}
+use Rattle.look.proofs.fill_row.Tie as tie
 
 abbrev Inv-loop : tie.InvT-loop
 Inv-loop area lows₀ b v last₀ r₀ lows last r = Filling area b v lows₀ lows last r
@@ -20,7 +21,7 @@ loop-holds c = row-start _
 is-set-requires : tie.Need-is-set-requires Inv-loop μ-loop
 is-set-requires c κs =
     let z = c .before .before .before .before in
-    (search needs, in-row _ _ _ _ (z .pre .0 .1) (omega arith) (z .pre .1 .0))
+    (search needs, area-cell _ _ _ _ (z .args .area .now) (z .pre .0 .1) (omega arith) (omega arith) (z .pre .1 .0))
 
 put-entry-requires : tie.Need-put-entry-requires Inv-loop μ-loop
 put-entry-requires c κs =

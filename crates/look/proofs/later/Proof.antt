@@ -1,11 +1,11 @@
--- `lows::later` meets its contract, by its two ways.
+-- `look::later` meets its contract, by its two ways.
 -- Rests on specs Rows.
 use mathlib.Core.Path.{sym, ap, _∙_}
 use native.Mathlib.Numerals.{add-one}
 use borrow.Author.Needs.{needs}
-use Rattle.lows.specs.Rows.{latest}
-use Rattle.lows.proofs.later.Statement.{statement}
-use Rattle.lows.proofs.later.Tie as tie
+use Rattle.look.specs.Rows.{latest}
+use Rattle.look.proofs.later.Statement.{statement}
+use Rattle.look.proofs.later.Tie as tie
 
 returns : tie.Need-returns
 unfolding latest

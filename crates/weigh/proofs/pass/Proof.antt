@@ -5,7 +5,7 @@ use native.Mathlib.Omega.{arith}
 use borrow.Author.Needs.{needs}
 use Rattle.weigh.proofs.Cells.{cell}
 use Rattle.weigh.proofs.OneCost.{same-wide}
-use Rattle.weigh.proofs.Forward.{set-completes, unset-completes, next-block}
+use Rattle.weigh.proofs.Forward.{unset-completes, next-block}
 use Rattle.weigh.proofs.pass.Statement.{statement}
 use Rattle.weigh.proofs.pass.Tie as tie
 
@@ -19,7 +19,7 @@ spread-requires c κs =
     let i = c .before .before in
     let z = i .before .before .before .before .before .before in
     let p = z .pre .1 .1 .1 .0 in
-    let m = set-completes (z .pre .1 .1 .0) _ _ (omega (arith, p .0), p .1) (p .2) (sym (c .before .if1 .taken) ∙ i .is-set .ensures) in
+    let m = z .pre .1 .1 .0 .cells _ _ (omega (arith, p .0)) (p .1) (p .2) (sym (i .is-set .ensures) ∙ c .before .if1 .taken) in
     (z .pre .0, (z .pre .1 .0, (z .pre .1 .1 .0, (p, m))))
 
 returns : tie.Need-returns
@@ -29,7 +29,7 @@ returns c =
     (g .spread .ensures .0, next-block (g .spread .ensures .0) _ _ (z .pre .1 .1 .1 .1) (λ m. g .spread .ensures .1))
 
 same-length : tie.Need-same-length
-same-length c = returns c .0 .kept .same
+same-length c = returns c .0 .same
 
 returns-2 : tie.Need-returns-2
 returns-2 c =

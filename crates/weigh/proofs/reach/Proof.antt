@@ -21,10 +21,10 @@ returns c =
     let k = cost-is _ _ (z .pre .1 .1 .0 .0) (z .pre .1 .1 .0 .1) in
     (same-wide (z .pre .1 .0), beyond (z .pre .1 .0) _ _ (omega (arith, c .before .cost-in .ensures .0, k)) (c .if1 .taken))
 
-put-requires : tie.Need-put-requires
-put-requires c κs =
+set-cell-requires : tie.Need-set-cell-requires
+set-cell-requires c κs =
     let z = c .before .before .before .before .before in
-    cell (z .pre .1 .0 .ready) _ _ (z .pre .1 .1 .0 .0, z .pre .1 .1 .0 .1) (c .before .if1 .left)
+    cell (z .pre .1 .0 .ready) _ _ (z .pre .1 .1 .0 .0, z .pre .1 .1 .0 .1) (omega (arith, c .before .if1 .left, z .pre .1 .1 .0 .2))
 
 returns-2 : tie.Need-returns-2
 returns-2 c =
@@ -34,12 +34,12 @@ returns-2 c =
     let p = z .pre .1 .1 .0 in
     let m = z .pre .1 .1 .1 in
     let k = cost-is _ _ (p .0) (p .1) in (
-      wrote F _ _ (omega (arith, f .before .cost-in .ensures .0, k)) (p .0, p .1) m (f .if1 .left) (c .before .before .put .ensures),
-      wrote-reached F _ _ (omega (arith, f .before .cost-in .ensures .0, k)) (p .0, p .1) m (f .if1 .left) (c .before .before .put .ensures),
+      wrote F _ _ (omega (arith, f .before .cost-in .ensures .0, k)) (p .0, p .1) m (f .if1 .left) (c .before .before .set-cell .ensures),
+      wrote-reached F _ _ (omega (arith, f .before .cost-in .ensures .0, k)) (p .0, p .1) m (f .if1 .left) (c .before .before .set-cell .ensures),
     )
 
 same-length : tie.Need-same-length
-same-length c = returns-2 c .0 .kept .same
+same-length c = returns-2 c .0 .same
 
 pub reach-spec : {M : Type 1} → statement M
-reach-spec = tie.close (tie.spec cost-in-requires add-d returns put-requires same-length returns-2)
+reach-spec = tie.close (tie.spec cost-in-requires add-d returns set-cell-requires same-length returns-2)

@@ -64,7 +64,7 @@ loop-again c =
     (omega arith, spread-more (l .loop .inv .1) q (g .reach .ensures .0) (g .reach .ensures .1))
 
 same-length : tie.Need-same-length Inv-loop μ-loop
-same-length c = c .before .loop .inv .1 .wide .kept .same
+same-length c = c .before .loop .inv .1 .wide .same
 
 returns : tie.Need-returns Inv-loop μ-loop
 returns c =

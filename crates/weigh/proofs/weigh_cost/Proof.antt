@@ -39,7 +39,7 @@ loop-again c =
     (omega arith, omega arith, wider-then (i .2) (g .pass .ensures .0), g .pass .ensures .1)
 
 same-length : tie.Need-same-length Inv-loop μ-loop
-same-length c = c .before .loop .inv .2 .kept .same
+same-length c = c .before .loop .inv .2 .same
 
 returns : tie.Need-returns Inv-loop μ-loop
 returns c =

@@ -35,7 +35,7 @@ loop-again c =
     (omega arith, wider-then (i .1) (g .weigh-cost .ensures .0), g .weigh-cost .ensures .1)
 
 same-length : tie.Need-same-length Inv-loop μ-loop
-same-length c = c .before .loop .inv .1 .kept .same
+same-length c = c .before .loop .inv .1 .same
 
 returns : tie.Need-returns Inv-loop μ-loop
 returns c =
