@@ -13,7 +13,7 @@ pub mod Counts
 pub mod Paths
 -- the copies are exactly those that are reached from the start copies: reached-in, in-reached
 pub mod Reach
--- the copies rise by block, then low: copies-rise
+-- the candidates and the copies rise by block, then low: candidates-rise, copies-rise
 pub mod Order
 -- a bounded graph that lays the copies out keeps the promises from every entry: agrees, paths-kept
 pub mod Agreement

@@ -1,4 +1,4 @@
--- The copies of a setting rise by block and then low.
+-- The candidates, and the copies among them, rise by block and then low.
 -- Rests on base Lists and Copies.
 use mathlib.Core.Path.{_≡_, sym, ap}
 use mathlib.Core.Logic.{inl}
@@ -28,6 +28,10 @@ rising-rows b (suc k) v =
     let r = each-e (line b) (from (suc v) k) n in
     before-i x y (inl (omega (arith, line-block b v x m, line-block b (r .0) y (r .2), from-e k (suc v) (r .0) (r .1)))))
 
+pub candidates-rise : (n b : ℕ) → Rising (candidates n b)
+unfolding candidates line
+candidates-rise n b = rising-rows b n 1
+
 pub copies-rise : (g : Graph) (n b : ℕ) (ss : List Copy) → Rising (copiesFrom g n b ss)
-unfolding copiesFrom candidates line
-copies-rise g n b ss = rising-keep _ (candidates n b) (rising-rows b n 1)
+unfolding copiesFrom
+copies-rise g n b ss = rising-keep _ (candidates n b) (candidates-rise n b)

@@ -98,7 +98,7 @@ fn write_chain(
     ensures { λ r. ⌜ r ≡ e + length (graphIn (now (row .entry)) .next v) ⌝ }
     ensures { λ _. ⌜ ((cs : List Copy) → Numbers (lowOf (graphIn (now (row .entry)))) (blocksIn (now (row .entry))) b cs (now (numbers .entry))
         → now (out .exit) ≡ putWords (now (out .entry)) (at + 2 * (e - 1))
-            (edgeRecords e (rowOf (graphIn (now (row .entry))) cs (copyOf v l) .targetWords))) ⌝ }
+        (edgeRecords e (rowOf (graphIn (now (row .entry))) cs (copyOf v l) .targetWords))) ⌝ }
 {
     let left = l - cost_in(row, v);
     let a = start_in(row, v);
