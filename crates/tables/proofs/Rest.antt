@@ -9,7 +9,7 @@ use borrow.Author.Tests.{eq-eqb, ne-eqb}
 use lib.ListN.{length, getD, drop}
 use Rattle.base.specs.Lists.{keep}
 use Rattle.base.specs.Copy.{Copy, copyOf}
-use Rattle.base.specs.Cells.{cellOf, cellCount, isSet}
+use Rattle.base.specs.Cells.{cellCount, isSet}
 use Rattle.theory.specs.Copies.{candidates}
 use Rattle.formats.specs.Limits.{mostBlocks, mostBudget, mostCells}
 use Rattle.cells.specs.Cells.{Within}
@@ -82,7 +82,6 @@ pub record Scan (n b : ℕ) (marks : List ℕ) (size : ℕ) : Type 0 where
 pub record Fits (n b v l : ℕ) : Type 0 where
   pub within : Within b v l
   pub block : (1 ≤ v) × (v ≤ n)
-  pub inside : cellOf b v l < cellCount n b
 
 -- a loop over the set cells alone: the next of them is at i, or there is none left
 pub record AtCopy (n b : ℕ) (marks : List ℕ) (size i : ℕ) : Type 0 where
@@ -102,7 +101,6 @@ module _ {n b : ℕ} {marks : List ℕ} {size : ℕ} where
       record {
         within = record { budget = S .limits .1; block = (C .block, omega (arith, S .limits .0)); cost = C .low };
         block = (C .block, q);
-        inside = omega (arith, C .place);
       }
 
   pub scan-room : Scan n b marks size → size ≤ length marks

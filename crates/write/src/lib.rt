@@ -2,14 +2,14 @@
 // Rests on graph_row, tables.
 ghost use mathlib.Core.Path.{_≡_};
 ghost use mathlib.Core.List.{List, [], _∷_};
-ghost use Prim.Native.Nat.{ℕ, _+_, _*_, _<_, _≤_};
+ghost use Prim.Native.Nat.{ℕ, _+_, _-_, _*_, _<_, _≤_};
 ghost use lib.ListN.{length};
 ghost use Rattle.base.specs.Copy.{Copy, copyOf};
 ghost use Rattle.base.specs.Cells.{cellCount};
 ghost use Rattle.theory.specs.Completions.{lowOf};
 ghost use Rattle.formats.specs.Limits.{mostBudget, mostCopies, mostBoundedEdges, wordLimit};
 ghost use Rattle.formats.specs.BoundedSheet.{firstEdge, edgeRecords, copyWords, edgeWords, recordWords};
-ghost use Rattle.calls.specs.SheetGraph.{rowOf, rowsOf};
+ghost use Rattle.calls.specs.SheetGraph.{rowOf};
 ghost use Rattle.tables.specs.Tables.{markedCopies, Numbers};
 ghost use Rattle.tables.specs.Rows.{edgesOf};
 ghost use Rattle.graph_row.specs.GraphRow.{blocksIn, graphIn, Flat};
