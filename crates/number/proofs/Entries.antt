@@ -6,26 +6,26 @@ use mathlib.Core.List.{List}
 use mathlib.Core.Option.{Option, Option·map}
 use Prim.Native.Nat.{ℕ, zero, suc}
 use Rattle.base.specs.Copy.{Copy, copyOf, numberFrom}
-use Rattle.theory.specs.Completions.{Graph, completes, largest, lowOf}
-use Rattle.theory.specs.Copies.{copyFor, targetNumber}
+use Rattle.theory.specs.Completions.{largest}
+use Rattle.theory.specs.Copies.{targetNumber}
 use Rattle.theory.proofs.Completions.{largest-self}
 use Rattle.number.specs.Entries.{entryBefore, nextEntry}
 
--- the number of the copy of v that serves r cycles, by that of one cycle less
-module _ (g : Graph) (cs : List Copy) (v : ℕ) where
+-- the number of the copy of v that serves r cycles, by that of one cycle less, where v has the costs that pass f
+module _ (f : ℕ → Bool) (cs : List Copy) (v : ℕ) where
   abbrev pub entry : ℕ → ℕ
-  entry r = targetNumber cs (copyFor g r v)
+  entry r = targetNumber cs (Option·map (copyOf v) (largest f r))
 
   unfoldable pub before : ℕ → ℕ
   before zero = 0
   before (suc r) = entry r
 
-  pub entry-yes : (r : ℕ) → completes g v r ≡ true → entry r ≡ numberFrom 1 (copyOf v r) cs
-  unfolding copyFor lowOf targetNumber
-  entry-yes r e = ap (λ (o : Option ℕ). targetNumber cs (Option·map (copyOf v) o)) (largest-self (completes g v) r e)
+  pub entry-yes : (r : ℕ) → f r ≡ true → entry r ≡ numberFrom 1 (copyOf v r) cs
+  unfolding targetNumber
+  entry-yes r e = ap (λ (o : Option ℕ). targetNumber cs (Option·map (copyOf v) o)) (largest-self f r e)
 
-  pub entry-no : (r : ℕ) → completes g v r ≡ false → before r ≡ entry r
-  unfolding before copyFor lowOf targetNumber largest
+  pub entry-no : (r : ℕ) → f r ≡ false → before r ≡ entry r
+  unfolding before targetNumber largest
   entry-no zero e = rw (e, largest)
   entry-no (suc r) e = rw (e, largest)
 

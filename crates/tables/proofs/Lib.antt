@@ -6,3 +6,5 @@ pub mod Tables
 pub mod Rows
 -- the candidates by their cells: candidate-here, none-past, code-cell, next-low, next-block, cell-block
 pub mod Places
+-- the marked copies from a cell on, and a loop over them: rest, scan-of, cell-fits, at-first, at-next, at-end
+pub mod Rest

@@ -93,7 +93,7 @@ pub fn next_marked(marks: &[u8], size: usize, i: usize) -> usize
 }
 
 // Whether the copy at i is marked.
-fn is_marked_at(marks: &[u8], i: usize) -> bool
+pub fn is_marked_at(marks: &[u8], i: usize) -> bool
     requires { ⌜ i < length (now marks) ⌝ }
     ensures { λ r. ⌜ r ≡ isSet (now (marks .entry)) i ⌝ }
 {

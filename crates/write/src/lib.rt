@@ -2,14 +2,14 @@
 // Rests on graph_row, tables.
 ghost use mathlib.Core.Path.{_≡_};
 ghost use mathlib.Core.List.{List, [], _∷_};
-ghost use Prim.Native.Nat.{ℕ, _+_, _*_, _<_, _≤_};
+ghost use Prim.Native.Nat.{ℕ, _+_, _-_, _*_, _<_, _≤_};
 ghost use lib.ListN.{length};
 ghost use Rattle.base.specs.Copy.{Copy, copyOf};
 ghost use Rattle.base.specs.Cells.{cellCount};
 ghost use Rattle.theory.specs.Completions.{lowOf};
 ghost use Rattle.formats.specs.Limits.{mostBudget, mostCopies, mostBoundedEdges, wordLimit};
 ghost use Rattle.formats.specs.BoundedSheet.{firstEdge, edgeRecords, copyWords, edgeWords, recordWords};
-ghost use Rattle.calls.specs.SheetGraph.{rowOf, rowsOf};
+ghost use Rattle.calls.specs.SheetGraph.{rowOf};
 ghost use Rattle.tables.specs.Tables.{markedCopies, Numbers};
 ghost use Rattle.tables.specs.Rows.{edgesOf};
 ghost use Rattle.graph_row.specs.GraphRow.{blocksIn, graphIn, Flat};
@@ -98,7 +98,7 @@ fn write_chain(
     ensures { λ r. ⌜ r ≡ e + length (graphIn (now (row .entry)) .next v) ⌝ }
     ensures { λ _. ⌜ ((cs : List Copy) → Numbers (lowOf (graphIn (now (row .entry)))) (blocksIn (now (row .entry))) b cs (now (numbers .entry))
         → now (out .exit) ≡ putWords (now (out .entry)) (at + 2 * (e - 1))
-            (edgeRecords e (rowOf (graphIn (now (row .entry))) cs (copyOf v l) .targetWords))) ⌝ }
+        (edgeRecords e (rowOf (graphIn (now (row .entry))) cs (copyOf v l) .targetWords))) ⌝ }
 {
     let left = l - cost_in(row, v);
     let a = start_in(row, v);

@@ -1,10 +1,10 @@
 -- `number::low_after` meets its contract, by its two ways.
--- Rests on Places.
+-- Rests on tables Places.
 use mathlib.Core.Path.{sym, _∙_}
 use native.Mathlib.Numerals.{add-one}
 use native.Mathlib.Omega.{arith}
 use borrow.Author.Needs.{needs}
-use Rattle.number.proofs.Places.{low-same, low-last}
+use Rattle.tables.proofs.Places.{low-same, low-last}
 use Rattle.number.proofs.low_after.Statement.{statement}
 use Rattle.number.proofs.low_after.Tie as tie
 

@@ -1,38 +1,35 @@
 -- `number::number` meets its contract. The cells before i are done, and count copies are among them; the measure is the cells left.
--- Rests on Rest, Numbering.
+-- Rests on tables Rest, Numbering.
 use mathlib.Core.Path.{_≡_, refl, _∙_}
 use Prim.Native.Nat.{_-_}
 use native.Mathlib.Omega.{arith}
 use borrow.Author.Needs.{needs}
 use lib.ListN.{length, length-set}
-use Rattle.number.proofs.Rest.{scan-of, scan-room}
-use Rattle.number.proofs.Numbering.{Going, state-start, here-start, byte-small, going-on, going-end}
+use Rattle.tables.proofs.Rest.{scan-of, scan-room}
+use Rattle.number.proofs.Numbering.{Going, state-start, here-start, byte-small, going-cell, going-on, going-end}
 use Rattle.number.proofs.number.Statement.{statement}
 use Rattle.number.proofs.number.Tie as tie
 
 abbrev Inv-loop : tie.InvT-loop
-Inv-loop s area marks numbers₀ b size count₀ before₀ low₀ i₀ numbers count before low i =
-    (length numbers ≡ length numbers₀) × Going s area marks b size numbers count before low i
+Inv-loop area marks numbers₀ n b size count₀ before₀ low₀ i₀ numbers count before low i =
+    (length numbers ≡ length numbers₀) × Going n b area marks size numbers count before low i
 
 abbrev μ-loop : tie.MeasureT-loop
-μ-loop s area marks numbers₀ b size count₀ before₀ low₀ i₀ numbers count before low i = size - i
-
-cell-count-requires : tie.Need-cell-count-requires Inv-loop μ-loop
-cell-count-requires c κs = let z = c .before .before .before .before in (z .pre .0, z .pre .1 .0 .0)
+μ-loop area marks numbers₀ n b size count₀ before₀ low₀ i₀ numbers count before low i = size - i
 
 loop-holds : tie.Need-loop-holds Inv-loop μ-loop
 loop-holds c =
-    let z = c .before .before .before .before .before in
-    let p = z .pre .1 in (
+    let z = c .before .before .before .before in
+    let p = z .pre .1 .0 in (
       refl,
       record {
-        scan = scan-of (z .pre .0) (p .0 .0) (p .1 .1) (c .cell-count .ensures);
-        table = p .1 .0;
-        room = p .0 .1;
+        scan = scan-of (z .pre .0) (p .1) (c .cell-count .ensures);
+        area-room = p .0;
+        room = p .2;
         upto = omega arith;
         word = omega arith;
-        here = here-start _ _;
-        state = state-start _ _ _;
+        here = here-start;
+        state = state-start _ _ _ _ _;
       },
     )
 
@@ -45,7 +42,7 @@ more-requires c κs = let G = c .before .before .loop .inv .1 in omega (arith, G
 entry-at-requires : tie.Need-entry-at-requires Inv-loop μ-loop
 entry-at-requires c κs =
     let G = c .before .before .before .loop .inv .1 in (
-      omega (arith, G .scan .cells, G .table .room),
+      going-cell G (c .before .before .loop-test .taken),
       omega (arith, c .more .ensures, byte-small (c .before .is-marked-at .result), G .state .small, G .scan .few),
       G .word,
     )
@@ -57,7 +54,7 @@ slice-write-numbers : tie.Need-slice-write-numbers Inv-loop μ-loop
 slice-write-numbers c = let G = c .before .before .before .before .loop .inv .1 in omega (arith, G .scan .cells, G .room)
 
 low-after-requires : tie.Need-low-after-requires Inv-loop μ-loop
-low-after-requires c κs = let G = c .before .before .before .before .loop .inv .1 in (G .scan .budget, G .here .cell .low)
+low-after-requires c κs = let G = c .before .before .before .before .loop .inv .1 in (G .scan .limits .1, G .here .cell .low)
 
 add-i : tie.Need-add-i Inv-loop μ-loop
 add-i c = omega (arith, c .before .before .before .before .before .before .loop .inv .1 .scan .few)
@@ -85,6 +82,6 @@ returns c =
 pub number-spec : {M : Type 1} → statement M
 number-spec =
     tie.close
-    (tie.spec Inv-loop μ-loop cell-count-requires loop-holds is-marked-at-requires more-requires entry-at-requires cast-numbers
+    (tie.spec Inv-loop μ-loop (λ c κs. search needs) loop-holds is-marked-at-requires more-requires entry-at-requires cast-numbers
     (λ c. search needs) slice-write-numbers low-after-requires (λ c κs. search needs) add-i (λ c. search needs) loop-again same-length
     returns)

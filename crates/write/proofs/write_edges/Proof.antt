@@ -1,70 +1,58 @@
 -- `write::write_edges` meets its contract. With the records of the copies left the row is that of all; the measure is the cells left.
--- Rests on number Rest, Low, Records.
+-- Rests on tables Rest, Chain, Records.
 use mathlib.Core.Path.{sym, ap, _∙_}
-use Prim.Native.Nat.{_+_, _-_, _*_}
+use Prim.Native.Nat.{_-_}
 use native.Mathlib.Omega.{arith}
 use borrow.Author.Needs.{needs}
-use Rattle.tables.specs.Tables.{Numbers, Degrees}
-use Rattle.number.proofs.Rest.{scan-of, scan-room, cell-fits, at-copy}
+use Rattle.graph_row.specs.GraphRow.{blocksIn, graphIn}
+use Rattle.tables.proofs.Rest.{scan-room, cell-fits, at-copy}
 use Rattle.write.specs.Put.{putWords}
-use Rattle.write.proofs.Low.{low-covers}
-use Rattle.write.proofs.Records.{Written, written-start, written-fits, written-on, written-end}
-use Rattle.write.proofs.Records.{edgeRecord, edges-are, edges-fit, edge-length}
+use Rattle.write.proofs.Chain.{place}
+use Rattle.write.proofs.Records.{Written, scan-in, written-start, written-fits, written-on, written-end}
+use Rattle.write.proofs.Records.{edgeRecord, chains-are, edges-fit, edge-length}
 use Rattle.write.proofs.write_edges.Statement.{statement}
 use Rattle.write.proofs.write_edges.Tie as tie
 
 abbrev Inv-loop : tie.InvT-loop
-Inv-loop s degrees marks numbers out₀ b copies size base e₀ i₀ out e i =
-    Written edgeRecord s b marks size out₀ (3 + 3 * copies) out (base + 2 * e) e i × Numbers s b numbers × Degrees s degrees
+Inv-loop row marks numbers out₀ b at n size e₀ i₀ out e i =
+    Written edgeRecord (graphIn row) (blocksIn row) b marks size out₀ at out (place at e) e i
 
 abbrev μ-loop : tie.MeasureT-loop
-μ-loop s degrees marks numbers out₀ b copies size base e₀ i₀ out e i = size - i
-
-cell-count-requires : tie.Need-cell-count-requires Inv-loop μ-loop
-cell-count-requires c κs = let z = c .before .before .before .before .before in (z .pre .0, z .pre .1 .1 .0)
+μ-loop row marks numbers out₀ b at n size e₀ i₀ out e i = size - i
 
 next-marked-requires : tie.Need-next-marked-requires Inv-loop μ-loop
 next-marked-requires c κs =
     let z = c .before .before .before .before .before .before in
-    (omega arith, omega (arith, c .cell-count .ensures, z .pre .1 .1 .1 .0 .room))
+    (omega arith, scan-room (scan-in (z .pre .0) (z .pre .1 .0) (c .before .blocks-in .ensures .0) (c .cell-count .ensures)))
 
 loop-holds : tie.Need-loop-holds Inv-loop μ-loop
 loop-holds c =
     let z = c .before .before .before .before .before .before .before in
-    let p = z .pre .1 .1 in
-    let q = p .1 .1 in (
-      written-start edgeRecord (scan-of (z .pre .0) (p .0) (p .1 .0) (c .before .cell-count .ensures)) (c .next-marked .ensures)
-          (q .1 .0 .1) _ _ _ (omega arith) (edges-fit _ _ _ _ (q .1 .1)),
-      q .0,
-      z .pre .1 .0,
-    )
+    let p = z .pre .1 in
+    written-start edgeRecord (scan-in (z .pre .0) (p .0) (c .before .before .blocks-in .ensures .0) (c .before .cell-count .ensures))
+    (c .next-marked .ensures) (p .1 .1 .0) _ _ _ (omega arith) (edges-fit _ _ _ _ (p .1 .1 .1))
 
 cell-at-requires : tie.Need-cell-at-requires Inv-loop μ-loop
-cell-at-requires c κs = let S = c .before .loop .inv .0 .here .scan in (S .budget, omega (arith, S .few))
+cell-at-requires c κs = let S = c .before .loop .inv .here .scan in (S .limits .1, omega (arith, S .few))
 
 write-chain-requires : tie.Need-write-chain-requires Inv-loop μ-loop
 write-chain-requires c κs =
     let k = c .before in
-    let l = k .before .before .loop in
-    let W = l .inv .0 in
-    let S = W .here .scan in
-    let F = cell-fits S (k .before .loop-test .taken) (k .cell-at .ensures) in
-    let f = written-fits edgeRecord W (k .before .loop-test .taken) (k .cell-at .ensures) in
-    let d = edge-length W (k .cell-at .ensures) in
-    let m = low-covers _ (S .ok) _ _ _ (at-copy (W .here) (k .before .loop-test .taken) (k .cell-at .ensures)) in (
-      S .ok,
+    let W = k .before .before .loop .inv in
+    let z = k .before .before .before .before .before .before .before .before .before .before in
+    let h = k .before .loop-test .taken in
+    let F = cell-fits (W .here .scan) h (k .cell-at .ensures) in
+    let f = written-fits edgeRecord W h (k .cell-at .ensures) in
+    let m = z .pre .1 .0 .covers _ _ (F .block .0) (F .block .1) (F .within .cost) (at-copy (W .here) h (k .cell-at .ensures)) in (
+      z .pre .0,
       (
-        l .inv .2,
-        ((S .budget, l .inv .1), ((F .block .0, F .block .1, m, F .within .cost), (omega (arith, f .1), omega (arith, f .0, d)))),
+        (F .block .0, F .block .1, m, F .within .cost, F .within .budget),
+        (z .pre .1 .1 .0 .room, ((W .least, omega (arith, f .1)), omega (arith, f .0, W .least, edge-length W (k .cell-at .ensures)))),
       ),
     )
 
-add-next-marked : tie.Need-add-next-marked Inv-loop μ-loop
-add-next-marked c = omega (arith, c .before .before .before .before .before .before .loop .inv .0 .here .scan .few)
-
 next-marked-requires-2 : tie.Need-next-marked-requires-2 Inv-loop μ-loop
-next-marked-requires-2 c κs =
-    (omega arith, scan-room (c .before .before .before .before .before .before .loop .inv .0 .here .scan))
+next-marked-requires-2 c κs = (omega arith, scan-room (c .before .before .before .before .before .before .loop .inv .here .scan))
 
 loop-less : tie.Need-loop-less Inv-loop μ-loop
 loop-less c = omega (arith, c .next-marked2 .ensures .from)
@@ -75,23 +63,19 @@ loop-again c =
     let p = c .before .before .before in
     let e = p .write-chain .ensures in
     let k = p .before .before in
-    let l = k .before .before .loop in
-    let d = edge-length (l .inv .0) (k .cell-at .ensures) in (
-      written-on edgeRecord (l .inv .0) (k .before .loop-test .taken) (k .cell-at .ensures) (c .next-marked2 .ensures) (e .1)
-          (omega (arith, e .0, d)) (e .0),
-      l .inv .1,
-      l .inv .2,
-    )
+    let W = k .before .before .loop .inv in
+    let z = k .before .before .before .before .before .before .before .before .before .before in
+    written-on edgeRecord W (k .before .loop-test .taken) (k .cell-at .ensures) (c .next-marked2 .ensures) (e .1 _ (z .pre .1 .1 .0))
+    (omega (arith, e .0, W .least, edge-length W (k .cell-at .ensures))) (e .0)
 
 same-length : tie.Need-same-length Inv-loop μ-loop
-same-length c = c .before .loop .inv .0 .same
+same-length c = c .before .loop .inv .same
 
 returns : tie.Need-returns Inv-loop μ-loop
-returns c =
-    written-end edgeRecord (c .before .loop .inv .0) (c .loop-test .left) ∙ ap (putWords _ _) (sym (edges-are 1 _))
+returns c = written-end edgeRecord (c .before .loop .inv) (c .loop-test .left) ∙ ap (putWords _ _) (sym (chains-are 1 _))
 
 pub write-edges-spec : {M : Type 1} → statement M
 write-edges-spec =
     tie.close
-    (tie.spec Inv-loop μ-loop cell-count-requires (λ c. search needs) (λ c. search needs) next-marked-requires loop-holds cell-at-requires
-    write-chain-requires add-next-marked next-marked-requires-2 loop-less loop-again same-length returns)
+    (tie.spec Inv-loop μ-loop (λ c κs. search needs) (λ c κs. search needs) next-marked-requires loop-holds cell-at-requires
+    write-chain-requires (λ c. search needs) next-marked-requires-2 loop-less loop-again same-length returns)
