@@ -1,4 +1,4 @@
 -- What the contracts below the public calls cite.
--- Rests on calls Area, tables Tables.
--- an entry of the numbers by the entry before it; Stand
+-- Rests on nothing.
+-- an entry of the numbers by the entry before it
 pub mod Entries

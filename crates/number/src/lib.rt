@@ -7,7 +7,7 @@ ghost use Rattle.base.specs.Cells.{cellCount, isSet};
 ghost use Rattle.formats.specs.Limits.{mostBlocks, mostBudget, mostCells, wordLimit};
 ghost use Rattle.calls.specs.Area.{areaSize, byteOf, HasCell};
 ghost use Rattle.tables.specs.Tables.{lowIn, markedCopies, Numbers};
-ghost use Rattle.number.specs.Entries.{entryBefore, nextEntry, Stand};
+ghost use Rattle.number.specs.Entries.{entryBefore, nextEntry};
 use cells::is_set_at;
 use tables::cell_count;
 use tables::is_marked_at;
@@ -62,7 +62,6 @@ fn entry_at(area: &[u8], i: usize, reached: bool, count: usize, before: usize) -
 pub fn number(area: &[u8], marks: &[u8], numbers: &mut [u16], n: usize, b: usize) -> usize
     requires { ⌜ (n ≤ mostBlocks) × (b ≤ mostBudget) ⌝ }
     requires { ⌜ (areaSize n b ≤ length (now area)) × (cellCount n b ≤ length (now marks)) × (cellCount n b ≤ length (now numbers)) ⌝ }
-    requires { ⌜ Stand n b (now area) (now marks) ⌝ }
     ensures { λ r. ⌜ r ≡ length (markedCopies n b (now (marks .entry))) ⌝ }
     ensures { λ _. ⌜ length (now (numbers .exit)) ≡ length (now (numbers .entry)) ⌝ }
     ensures { λ _. ⌜ Numbers (lowIn b (now (area .entry))) n b (markedCopies n b (now (marks .entry))) (now (numbers .exit)) ⌝ }

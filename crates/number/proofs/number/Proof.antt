@@ -20,7 +20,7 @@ abbrev μ-loop : tie.MeasureT-loop
 loop-holds : tie.Need-loop-holds Inv-loop μ-loop
 loop-holds c =
     let z = c .before .before .before .before in
-    let p = z .pre .1 .0 in (
+    let p = z .pre .1 in (
       refl,
       record {
         scan = scan-of (z .pre .0) (p .1) (c .cell-count .ensures);
