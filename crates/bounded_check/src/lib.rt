@@ -1,5 +1,5 @@
 // A public call on a bounded sheet: rule 11, each word of the sheet looked at once.
-// Rests on graph_words, headers; the promise is an equation with formats Rule11.
+// Rests on words, headers; the promise is an equation with formats Rule11.
 ghost use mathlib.Core.Path.{_≡_};
 ghost use mathlib.Core.Bool.{_&&_, _||_, not};
 ghost use Prim.Native.Nat.{suc, _+_, _*_, _≤_};
@@ -13,15 +13,15 @@ ghost use Rattle.formats.specs.BoundedSheet.{headingOf};
 ghost use Rattle.formats.specs.Rule11.{badEdgeOrder, badTargetWords, boundedRefusal, Formed};
 ghost use Rattle.bounded_check.specs.Parts.{badForm, badCopy, badRecords};
 ghost use Rattle.bounded_check.specs.Chains.{Consecutive};
-use graph_words::LEAST_BOUNDED_EDGES;
-use graph_words::LEAST_COPIES;
-use graph_words::LEAST_WORDS;
-use graph_words::MOST_BLOCKS;
-use graph_words::MOST_BOUNDED_EDGES;
-use graph_words::MOST_BUDGET;
-use graph_words::MOST_COPIES;
-use graph_words::field;
-use graph_words::is_outside;
+use words::LEAST_BOUNDED_EDGES;
+use words::LEAST_COPIES;
+use words::LEAST_WORDS;
+use words::MOST_BLOCKS;
+use words::MOST_BOUNDED_EDGES;
+use words::MOST_BUDGET;
+use words::MOST_COPIES;
+use words::field;
+use words::is_outside;
 use headers::read_heading;
 
 // THE HEADER AND THE LENGTH

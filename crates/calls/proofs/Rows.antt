@@ -28,7 +28,7 @@ use Rattle.formats.specs.Report.{unusedBlocks, refusedAs, figuresLine, refusedL
 use Rattle.formats.specs.Report.{greater, mostOf, most, mostLine, unusedLine, unusedLines, eachSheet, reportOf}
 use Rattle.calls.specs.SheetGraph.{graphAt, sheetCopies, rowOf, rowsOf, boundedSheet, readBounded}
 use Rattle.calls.specs.Area.{areaSize, marks, byteOf, bytes, filled}
-use Rattle.calls.specs.Weigh.{taskArea, smallArea, nothingFits, weighOrder, beforeWeighing, areaAfter}
+use Rattle.calls.specs.Weigh.{taskArea, smallArea, nothingFits, frontOrder, weighOrder, beforeWeighing, areaAfter}
 use Rattle.calls.specs.Build.{tooMany, smallOutput, buildOrder, outputAfter, build}
 use Rattle.calls.specs.Moves.{outOfShape, moveOrder, moved, guardedOrder, guardedReply, guardedMove, boundedMoveOrder, boundedMove}
 use Rattle.calls.specs.Program.{listingOrder, sheetListing, listing}
@@ -54,7 +54,7 @@ unfolding examples paper loop twice least inBytes text lines
     badExit badEdgeOrder badTargetWords boundedOrder boundedRefusal
     wordOf wordsOf oddBytes digits decimal line headingLine copyLine listingOf refusalOf
     graphAt sheetCopies rowOf rowsOf boundedSheet cellCount areaSize taskArea
-    smallArea nothingFits weighOrder tooMany smallOutput buildOrder build listingOrder sheetListing listing sheetShown outcome
+    smallArea nothingFits frontOrder weighOrder tooMany smallOutput buildOrder build listingOrder sheetListing listing sheetShown outcome
 starred = refl
 
 pub pinned : Pinned refusals
@@ -70,7 +70,7 @@ unfolding refusals six loop least sparing dear exitChained areaWith inBytes text
     badExit badEdgeOrder badTargetWords boundedOrder boundedRefusal
     wordOf wordsOf oddBytes digits decimal line headingLine copyLine listingOf refusalOf
     graphAt sheetCopies rowOf rowsOf boundedSheet readBounded marks byteOf bytes cellCount areaSize filled taskArea
-    smallArea nothingFits weighOrder numbersOf numbersBefore beforeWeighing areaAfter tooMany smallOutput buildOrder outputAfter build
+    smallArea nothingFits frontOrder weighOrder numbersOf numbersBefore beforeWeighing areaAfter tooMany smallOutput buildOrder outputAfter build
     outOfShape moveOrder moved guardedOrder guardedReply guardedMove boundedMoveOrder boundedMove listingOrder sheetListing listing
     sheetsUpTo sheets unusedBlocks refusedAs figuresLine refusedLine sheetLine plus sums totalLine
     greater mostOf most mostLine unusedLine unusedLines eachSheet reportOf
@@ -88,14 +88,14 @@ pub orders : numbersOf buildOrder ∷ numbersOf guardedOrder ∷ numbersOf bound
     ∷ (1 ∷ 2 ∷ 3 ∷ 4 ∷ 5 ∷ 6 ∷ 7 ∷ 8 ∷ 33 ∷ [])
     ∷ (1 ∷ 2 ∷ 3 ∷ 4 ∷ 5 ∷ 6 ∷ 7 ∷ 8 ∷ 9 ∷ 10 ∷ [])
     ∷ []
-unfolding over numbersOf sheetOrder boundedOrder weighOrder buildOrder moveOrder guardedOrder boundedMoveOrder
+unfolding over numbersOf sheetOrder boundedOrder frontOrder weighOrder buildOrder moveOrder guardedOrder boundedMoveOrder
     partOrder countOrder listingOrder
 orders = refl
 
 -- "The work area keeps its content under each number checked before 9": in both orders the same
 pub before-9 : numbersBefore 9 (numbersOf buildOrder) ∷ numbersBefore 9 (numbersOf guardedOrder) ∷ numbersBefore 9 (numbersOf weighOrder) ∷ []
     ≡ replicate 3 (1 ∷ 2 ∷ 3 ∷ 4 ∷ 5 ∷ 6 ∷ 7 ∷ 8 ∷ 21 ∷ [])
-unfolding over numbersOf numbersBefore sheetOrder weighOrder buildOrder moveOrder guardedOrder
+unfolding over numbersOf numbersBefore sheetOrder frontOrder weighOrder buildOrder moveOrder guardedOrder
 before-9 = refl
 
 pub largest-sheets : map (λ (p : ℕ × ℕ). tooMany (record { copies = p .0; edges = p .1; budget = 0; records = 3 }))

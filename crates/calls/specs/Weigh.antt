@@ -30,9 +30,18 @@ smallArea i = ltb (length (i .area)) (taskArea (task (i .sheet)))
 unfoldable pub nothingFits : Task → Bool
 nothingFits T = isNone (lowOf (T .graph) 1 (T .largest))
 
--- "1 to 8, 21, 9", with which both orders begin
+-- "1 to 8, 21, 9", with which both orders begin, in pieces
+abbrev pub areaOrder : Order Weighing
+areaOrder = (21, smallArea) ∷ []
+
+abbrev pub fitOrder : Order Weighing
+fitOrder = (9, λ i. nothingFits (task (i .sheet))) ∷ []
+
+unfoldable pub frontOrder : Order Weighing
+frontOrder = over (λ i. i .sheet) sheetOrder ++ areaOrder
+
 unfoldable pub weighOrder : Order Weighing
-weighOrder = over (λ i. i .sheet) sheetOrder ++ ((21, smallArea) ∷ (9, λ i. nothingFits (task (i .sheet))) ∷ [])
+weighOrder = frontOrder ++ fitOrder
 
 -- "each number checked before 9"
 unfoldable pub beforeWeighing : ℕ → Bool

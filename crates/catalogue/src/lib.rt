@@ -14,7 +14,7 @@ ghost use Rattle.report_lines.specs.Lines.{lineRoom, unusedRoom};
 ghost use Rattle.catalogue.specs.Standing.{Ready, Standing, Next};
 ghost use Rattle.catalogue.specs.Parts.{closingPart};
 use figures::report_item;
-use graph_words::MOST_BLOCKS;
+use words::MOST_BLOCKS;
 use report_lines::write_most;
 use report_lines::write_total;
 use report_lines::write_unused;

@@ -17,7 +17,7 @@ use Rattle.calls.specs.Program.{listingOrder}
 use Rattle.calls.specs.Report.{acceptedFigures, sheetFigures}
 use Rattle.calls.proofs.Built.{keeps-rule}
 use Rattle.calls.proofs.Unused.{sheet-accepted, sheet-refused, listed}
-use Rattle.graph_words.proofs.Formed.{formed-of as graph-formed}
+use Rattle.words.proofs.Formed.{formed-of as graph-formed}
 use Rattle.bounded_words.proofs.Formed.{formed-of as bounded-formed}
 use Rattle.digits.specs.Wrote.{Wrote}
 use Rattle.digits.proofs.Due.{wrote-as}

@@ -5,9 +5,9 @@ ghost use mathlib.Core.List.{_++_};
 ghost use Prim.Native.Nat.{_+_, _*_, _/_, _≤_};
 ghost use lib.ListN.{length, drop};
 ghost use Rattle.formats.specs.File.{wordsOf};
-use graph_words::HEADER_WORDS;
-use graph_words::MOST_BLOCKS;
-use graph_words::MOST_EDGES;
+use words::HEADER_WORDS;
+use words::MOST_BLOCKS;
+use words::MOST_EDGES;
 
 // The bytes of one word more than the longest graph sheet has: a longer file is answered by as many of its bytes (proofs LongFile).
 pub const LONGER_FILE: usize = 2 * (HEADER_WORDS + 2 * MOST_BLOCKS + 2 * MOST_EDGES + 1);

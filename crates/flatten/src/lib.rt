@@ -1,5 +1,5 @@
 // THE DECODER: a graph sheet that passes its checks becomes a flat row, once. No other code behind the checks knows a graph's chains.
-// Rests on graph_words, chains, graph_row; what a decoded row holds is specs Decoded.
+// Rests on words, chains, graph_row; what a decoded row holds is specs Decoded.
 ghost use mathlib.Core.Path.{_≡_};
 ghost use Prim.Native.Nat.{_+_, _-_, _*_, _≤_, _<_};
 ghost use lib.ListN.{length, set};
@@ -7,7 +7,7 @@ ghost use Rattle.formats.specs.Limits.{mostBlocks, wordLimit};
 ghost use Rattle.formats.specs.GraphSheet.{headerOf, Sound};
 ghost use Rattle.flatten.specs.Decoded.{Decoded};
 use chains::copy_targets;
-use graph_words::field;
+use words::field;
 
 // Puts the three words of block v.
 fn put_block(row: &mut [u16], v: usize, cost: usize, start: usize, degree: usize)

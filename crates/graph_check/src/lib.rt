@@ -1,5 +1,5 @@
 // Public calls on a graph sheet: its conditions 1 to 8 in order, and a block's number of successors.
-// Rests on graph_words, headers, chains; the promises are equations with formats GraphSheet.
+// Rests on words, headers, chains; the promises are equations with formats GraphSheet.
 ghost use mathlib.Core.Path.{_≡_};
 ghost use mathlib.Core.Bool.{_||_};
 ghost use mathlib.Core.List.{_++_};
@@ -12,14 +12,14 @@ ghost use Rattle.graph_check.specs.Headers.{edgeStage};
 use chains::chain_length;
 use chains::mark_chain;
 use chains::misses;
-use graph_words::LEAST_BLOCKS;
-use graph_words::LEAST_EDGES;
-use graph_words::LEAST_WORDS;
-use graph_words::MOST_BLOCKS;
-use graph_words::MOST_BUDGET;
-use graph_words::MOST_EDGES;
-use graph_words::field;
-use graph_words::is_outside;
+use words::LEAST_BLOCKS;
+use words::LEAST_EDGES;
+use words::LEAST_WORDS;
+use words::MOST_BLOCKS;
+use words::MOST_BUDGET;
+use words::MOST_EDGES;
+use words::field;
+use words::is_outside;
 use headers::budget;
 use headers::read_header;
 

@@ -1,13 +1,13 @@
 // A graph in one row of words: its words by number. Everything behind the checks reads a graph so, and knows no sheet.
-// Rests on graph_words; the graph that a row holds is specs GraphRow.
+// Rests on words; the graph that a row holds is specs GraphRow.
 ghost use mathlib.Core.Path.{_≡_};
 ghost use Prim.Native.Nat.{_-_, _*_, _≤_, _<_};
 ghost use lib.ListN.{length, getD};
 ghost use Rattle.formats.specs.Limits.{mostBlocks, wordLimit};
 ghost use Rattle.graph_row.specs.GraphRow.{blocksIn, costIn, startIn, degreeIn};
-use graph_words::MOST_BLOCKS;
-use graph_words::MOST_EDGES;
-use graph_words::word_at;
+use words::MOST_BLOCKS;
+use words::MOST_EDGES;
+use words::word_at;
 
 // Room for any graph within the limits.
 pub const ROW_WORDS: usize = 1 + 3 * MOST_BLOCKS + MOST_EDGES;

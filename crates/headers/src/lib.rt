@@ -1,12 +1,12 @@
 // THE HEADERS of both kinds of sheet, each read once: everything behind them takes what they say as numbers. Below the public calls.
-// Rests on graph_words; the definitions are formats GraphSheet and BoundedSheet.
+// Rests on words; the definitions are formats GraphSheet and BoundedSheet.
 ghost use mathlib.Core.Path.{_≡_};
 ghost use Prim.Native.Nat.{_≤_, _<_};
 ghost use lib.ListN.{length};
 ghost use Rattle.formats.specs.Limits.{leastWords, wordLimit};
 ghost use Rattle.formats.specs.GraphSheet.{headerOf, header, budgetIn};
 ghost use Rattle.formats.specs.BoundedSheet.{headingOf, heading};
-use graph_words::word_at;
+use words::word_at;
 
 // What a graph sheet's header says of the records: N, E, and the word at which they begin.
 pub struct Header {

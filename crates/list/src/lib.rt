@@ -19,8 +19,8 @@ use bounded_words::edges;
 use build::build;
 use file_words::LONGER_FILE;
 use file_words::words_of;
-use graph_words::HEADER_WORDS;
-use graph_words::MOST_CELLS;
+use words::HEADER_WORDS;
+use words::MOST_CELLS;
 use text::write_listing;
 use text::write_refusal;
 

@@ -4,5 +4,3 @@ pub mod Scan
 pub mod Stored
 -- the rows, one number and one block after the other: row-on, row-end, rows-on, rows-end
 pub mod Rows
--- what a look-up says, for callers: is-low
-pub mod Laws

@@ -18,7 +18,7 @@ use Rattle.formats.proofs.Reading.{met}
 use Rattle.formats.proofs.RuleWords.{rows}
 use Rattle.formats.proofs.RuleRead.{clauses, laid-out}
 use Rattle.calls.specs.SheetGraph.{graph}
-use Rattle.graph_words.proofs.Formed as Graph
+use Rattle.words.proofs.Formed as Graph
 use Rattle.bounded_words.proofs.Formed as Bounded
 use Rattle.formats.proofs.Chains.{follow-end, follow-out, follow-more}
 use Rattle.chains.proofs.Rest.{successors-are}

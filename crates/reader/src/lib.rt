@@ -12,8 +12,8 @@ use bounded_words::copies;
 use bounded_words::edges;
 use bounded_words::first_at;
 use bounded_words::next_at;
-use graph_words::HEADER_WORDS;
-use graph_words::is_outside;
+use words::HEADER_WORDS;
+use words::is_outside;
 
 // 11 where the sheet breaks rule 11, then 33 for a copy outside 1 to C, else 0.
 fn edge_words_answer(s: &[u16], i: u16) -> u16

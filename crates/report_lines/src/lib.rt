@@ -15,7 +15,7 @@ use digits::put_bytes;
 use digits::put_decimal;
 use digits::put_named;
 use digits::put_number;
-use graph_words::MOST_BLOCKS;
+use words::MOST_BLOCKS;
 
 // The room that a line takes, and that the lines of a sheet's unused blocks take.
 pub const LINE_SIZE: usize = 33;

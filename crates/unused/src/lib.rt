@@ -11,7 +11,7 @@ ghost use Rattle.formats.specs.Report.{copyBlocks, unusedBlocks};
 ghost use Rattle.unused.specs.Marks.{markedBlocks, First, Unmarked};
 use bounded_words::block_at;
 use bounded_words::copies;
-use graph_words::MOST_BLOCKS;
+use words::MOST_BLOCKS;
 
 // The mark of block i + 1 among the blocks 1 to n.
 fn first_mark(i: usize, n: usize) -> u8

@@ -28,7 +28,7 @@ pub struct Moved {
 
 impl Walk {
     // the most moves of a walk on a built sheet, whatever its budget: "ends within B + 1 moves"
-    pub const MOST_MOVES: usize = graph_words::MOST_BUDGET + 1;
+    pub const MOST_MOVES: usize = words::MOST_BUDGET + 1;
 
     // "place 1, count 0"
     pub const FIRST_PLACE: u16 = 1;

@@ -21,8 +21,8 @@ use graph_row::blocks_in;
 use graph_row::cost_in;
 use graph_row::degree_in;
 use graph_row::start_in;
-use graph_words::MOST_BLOCKS;
-use graph_words::word_at;
+use words::MOST_BLOCKS;
+use words::word_at;
 
 // One byte, as a number.
 fn byte_at(bytes: &[u8], i: usize) -> usize

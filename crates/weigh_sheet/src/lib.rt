@@ -11,8 +11,8 @@ ghost use Rattle.calls.specs.Weigh.{weighed};
 use flatten::flatten;
 use graph_check::check_graph;
 use graph_row::ROW_WORDS;
-use graph_words::blocks;
-use graph_words::budget;
+use words::blocks;
+use words::budget;
 use look::look_up;
 use weigh::weigh;
 

@@ -19,7 +19,7 @@ use graph_row::blocks_in;
 use graph_row::cost_in;
 use graph_row::degree_in;
 use graph_row::start_in;
-use graph_words::word_at;
+use words::word_at;
 use tables::cell_at;
 use tables::cell_count;
 use tables::entry;

@@ -13,7 +13,7 @@ use Rattle.graph_row.proofs.Successors.{words-inside}
 use Rattle.graph_row.proofs.cost_in.Reads as cost-in
 use Rattle.graph_row.proofs.degree_in.Reads as degree-in
 use Rattle.graph_row.proofs.start_in.Reads as start-in
-use Rattle.graph_words.proofs.word_at.Reads as word-at
+use Rattle.words.proofs.word_at.Reads as word-at
 use Rattle.tables.proofs.entry.Reads as entry
 use Rattle.tables.proofs.is_marked.Reads as is-marked
 use Rattle.tables.proofs.mark.Reads as mark

@@ -1,11 +1,11 @@
 -- `moves::guarded_move` meets its contract: the sheet is refused, the walk is out of shape, or the monitor replies.
--- Rests on graph_words Formed, formats Accepted, Answers.
+-- Rests on words Formed, formats Accepted, Answers.
 use mathlib.Core.Path.{_≡_}
 use native.Mathlib.Omega.{arith}
 use borrow.Author.Needs.{needs}
 use Rattle.formats.specs.GraphSheet.{sheetRefusal}
 use Rattle.formats.proofs.Accepted.{accepted, budget-fits}
-use Rattle.graph_words.proofs.Formed.{formed-of}
+use Rattle.words.proofs.Formed.{formed-of}
 use Rattle.walk.specs.Walks.{walkOf, replyOf}
 use Rattle.moves.proofs.Answers.{weigh-refused, sheet-passes, area-table, shape-refused, in-shape, monitor-replies}
 use Rattle.moves.proofs.guarded_move.Statement.{statement}

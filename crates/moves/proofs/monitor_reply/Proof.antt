@@ -8,7 +8,7 @@ use Rattle.theory.specs.Machines.{going}
 use Rattle.theory.specs.Walks.{monitor}
 use Rattle.formats.specs.GraphSheet.{header}
 use Rattle.calls.specs.SheetGraph.{graph}
-use Rattle.graph_words.proofs.Formed.{formed-of}
+use Rattle.words.proofs.Formed.{formed-of}
 use Rattle.walk.specs.Walks.{endOf, walkOf}
 use Rattle.walk.proofs.Shape.{ended-is, going-is}
 use Rattle.moves.proofs.Replies.{ended, unchosen, target-fits, count-fits, diverts, enters}

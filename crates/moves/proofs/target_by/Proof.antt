@@ -1,7 +1,7 @@
 -- `moves::target_by` meets its contract: a block's successors are the targets of its chain.
--- Rests on graph_words Formed, Edges.
+-- Rests on words Formed, Edges.
 use borrow.Author.Needs.{needs}
-use Rattle.graph_words.proofs.Formed.{formed-of}
+use Rattle.words.proofs.Formed.{formed-of}
 use Rattle.moves.proofs.Edges.{graph-room, graph-inside, graph-chosen}
 use Rattle.moves.proofs.target_by.Statement.{statement}
 use Rattle.moves.proofs.target_by.Tie as tie

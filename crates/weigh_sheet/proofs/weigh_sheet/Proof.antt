@@ -3,7 +3,7 @@
 use mathlib.Core.Path.{sym, _∙_}
 use native.Mathlib.Omega.{arith}
 use borrow.Author.Needs.{needs}
-use Rattle.graph_words.proofs.Formed.{formed-of}
+use Rattle.words.proofs.Formed.{formed-of}
 use Rattle.weigh_sheet.proofs.Answers.{sheet-refused, size-small, area-refused, ready, looks, nothing-fits, something-fits}
 use Rattle.weigh_sheet.proofs.weigh_sheet.Statement.{statement}
 use Rattle.weigh_sheet.proofs.weigh_sheet.Tie as tie

@@ -2,9 +2,9 @@
 -- Rests on Records.
 use native.Mathlib.Omega.{arith}
 use borrow.Author.Needs.{needs}
-use Rattle.graph_words.proofs.Records.{record-end}
-use Rattle.graph_words.proofs.field.Statement.{statement}
-use Rattle.graph_words.proofs.field.Tie as tie
+use Rattle.words.proofs.Records.{record-end}
+use Rattle.words.proofs.field.Statement.{statement}
+use Rattle.words.proofs.field.Tie as tie
 
 mul-word-at : tie.Need-mul-word-at
 mul-word-at c = let z = c .before in omega (arith, record-end (z .args .width) (z .args .i) (z .pre .0))

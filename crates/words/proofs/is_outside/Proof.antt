@@ -2,8 +2,8 @@
 -- Rests on base Checks.
 use borrow.Author.Tests.{lt-ltb, le-ltb}
 use Rattle.base.specs.Checks.{outside}
-use Rattle.graph_words.proofs.is_outside.Statement.{statement}
-use Rattle.graph_words.proofs.is_outside.Tie as tie
+use Rattle.words.proofs.is_outside.Statement.{statement}
+use Rattle.words.proofs.is_outside.Tie as tie
 
 returns : tie.Need-returns
 unfolding outside
