@@ -1,107 +1,136 @@
--- The answers of weighing, each with the work area after it.
+-- The answers of weighing, half by half, and the work area after them.
 -- Rests on base Orders, formats Accepted, calls Weigh and Area.
-use mathlib.Core.Path.{_≡_, refl, sym, ap, subst, _∙_}
+use mathlib.Core.Path.{_≡_, refl, sym, ap, ap₂, subst, _∙_}
 use mathlib.Core.Bool.{Bool, true, false}
-use mathlib.Core.List.{List, [], _∷_}
+use mathlib.Core.List.{List, []}
 use Prim.Native.Nat.{ℕ, suc, _+_, _*_, _≤_, _<_}
 use native.Mathlib.Omega.{arith}
 use native.Mathlib.Nat.{mul-le-mul}
 use native.Mathlib.Numerals.{add-one}
 use borrow.Author.Tests.{lt-ltb, le-ltb}
 use lib.ListN.{length}
-use Rattle.base.specs.Lists.{any, all, isNone, from, member}
+use Rattle.base.specs.Lists.{any, all, isNone, from, member, optionOf}
+use Rattle.base.specs.Cells.{cellOf, cellCount}
 use Rattle.base.specs.Checks.{refused, over}
-use Rattle.base.proofs.Orders.{none-left}
-use Rattle.theory.specs.Completions.{lowOf}
-use Rattle.formats.specs.Limits.{mostBudget}
-use Rattle.formats.specs.GraphSheet.{budgetIn, header, sheetOrder, sheetRefusal}
-use Rattle.formats.proofs.Accepted.{accepted, blocks, budget-fits}
-use Rattle.calls.specs.SheetGraph.{task, graph}
-use Rattle.calls.specs.Area.{areaSize, filled, Table}
-use Rattle.calls.specs.Weigh.{Weighing, taskArea, smallArea, nothingFits, weighOrder, beforeWeighing, areaAfter, weighed}
-use Rattle.calls.proofs.Weigh.{spared, sheet-early, late-area}
-use Rattle.calls.proofs.Area.{filled-table}
-use Rattle.base.specs.Lists.{optionOf}
 use Rattle.base.proofs.Options.{option-none, option-some}
-use Rattle.base.proofs.Orders.{pick, tested, append-stops, append-passes, over-is}
+use Rattle.base.proofs.Orders.{pick, tested, none-left, append-stops, append-passes, over-is, over-passes, over-stops}
+use Rattle.theory.specs.Completions.{Graph, lowOf}
+use Rattle.formats.specs.Limits.{mostBlocks, mostBudget}
+use Rattle.formats.specs.GraphSheet.{Header, headerOf, header, budgetIn, sheetOrder, sheetRefusal}
+use Rattle.formats.proofs.Accepted.{accepted, graph-numbered}
+use Rattle.calls.specs.SheetGraph.{task, graph}
+use Rattle.calls.specs.Area.{areaSize, filled, HasCell, Table}
+use Rattle.calls.specs.Weigh.{Weighing, taskArea, smallArea, nothingFits, areaOrder, fitOrder, frontOrder, weighOrder}
+use Rattle.calls.specs.Weigh.{beforeWeighing, areaAfter, weighed}
+use Rattle.calls.proofs.Area.{area-cell, filled-table}
+use Rattle.cells.specs.Cells.{Within}
+use Rattle.tables.specs.Tables.{lowIn}
+use Rattle.tables.proofs.Tables.{low-in}
+use Rattle.graph_row.specs.GraphRow.{blocksIn, graphIn}
+use Rattle.flatten.specs.Decoded.{Decoded}
+use Rattle.weigh.specs.States.{Ready}
+use Rattle.weigh.proofs.Flat.{ready}
+use Rattle.calls.proofs.Weigh.{front-numbered, front-early, late-area, spared}
 
 module _ (w area : List ℕ) where
   abbrev i : Weighing
   i = record { sheet = w; area = area }
 
-  -- an answer and an area are those of the call
-  abbrev pub Answers : ℕ → List ℕ → Type 0
-  Answers r after = (r ≡ weighed i .answer) × (after ≡ weighed i .area)
+  -- THE FRONT: 1 to 8, then 21
+  pub sheet-refused : {r : ℕ} → r ≡ sheetRefusal w → (r ≡ 0 → ⊥) → r ≡ refused frontOrder i
+  unfolding frontOrder sheetRefusal
+  sheet-refused {r} q n = q ∙ sym (over-stops (λ i. i .sheet) sheetOrder areaOrder i (λ z. n (q ∙ z)))
 
-  answers : (r : ℕ) {after : List ℕ} → refused weighOrder i ≡ r → after ≡ areaAfter (task w) r area → Answers r after
-  unfolding weighed
-  answers r e q = (sym e, q ∙ ap (λ (x : ℕ). areaAfter (task w) x area) (sym e))
+  -- the code's product is the length that the sheet asks for
+  module _ (ok : sheetRefusal w ≡ 0) {n b : ℕ} (p : n ≡ header w .blocks) (q : b ≡ budgetIn w) where
+    pub size-small : n * (b + 1) ≤ 128 * 501
+    size-small =
+        let A = accepted w ok in
+        mul-le-mul {n₁ = n} {m₁ = b + 1} {n₂ = 128} {m₂ = 501} (omega (arith, A .sound .form .blocks)) (omega (arith, A .budget))
 
-  stays : (r : ℕ) → beforeWeighing r ≡ true → area ≡ areaAfter (task w) r area
-  unfolding areaAfter
-  stays r e = rw (e, areaAfter)
+    asked : n * (b + 1) ≡ taskArea (task w)
+    unfolding taskArea areaSize cellCount
+    asked = ap₂ (λ (x y : ℕ). x * y) p (add-one b ∙ ap suc q)
 
-  pub sheet-refused : {r : ℕ} → r ≡ sheetRefusal w → (r ≡ 0 → ⊥) → Answers r area
-  unfolding weighOrder sheetRefusal
-  sheet-refused {r} q n =
-      let o = over-is (λ i. i .sheet) sheetOrder i ∙ sym q in
-      answers r (append-stops (over (λ i. i .sheet) sheetOrder) _ i (λ z. n (sym o ∙ z)) ∙ o)
-      (stays r (ap beforeWeighing q ∙ sheet-early w (λ z. n (q ∙ z))))
+    answer : {t : Bool} → smallArea i ≡ t → refused frontOrder i ≡ pick t 21 0
+    unfolding frontOrder sheetRefusal
+    answer e = over-passes (λ i. i .sheet) sheetOrder areaOrder i graph-numbered ok ∙ tested 21 smallArea [] i e (none-left i)
 
-  module _ (ok : sheetRefusal w ≡ 0) where
-    answer : {s f : Bool} → smallArea i ≡ s → nothingFits (task w) ≡ f → refused weighOrder i ≡ pick s 21 (pick f 9 0)
-    unfolding weighOrder sheetRefusal sheetOrder over all
-    answer p q =
-        append-passes (over (λ i. i .sheet) sheetOrder) _ i refl (over-is (λ i. i .sheet) sheetOrder i ∙ ok)
-        ∙ tested 21 smallArea _ i p (tested 9 (λ i. nothingFits (task (i .sheet))) [] i q (none-left i))
+    pub area-refused : length area < n * (b + 1) → 21 ≡ refused frontOrder i
+    unfolding smallArea
+    area-refused l = sym (answer (lt-ltb (length area) (taskArea (task w)) (omega (arith, asked))))
 
-    -- the code's product is the length that the sheet asks for
-    module _ {n b : ℕ} (p : n ≡ header w .blocks) (q : b ≡ budgetIn w) where
-      size : n * (b + 1) ≡ areaSize (header w .blocks) b
-      unfolding areaSize
-      size = rw add-one (ap (λ (n : ℕ). n * suc b) p)
+    pub area-passes : n * (b + 1) ≤ length area → 0 ≡ refused frontOrder i
+    unfolding smallArea
+    area-passes l = sym (answer (le-ltb (length area) (taskArea (task w)) (omega (arith, asked))))
 
-      asked : n * (b + 1) ≡ taskArea (task w)
+  -- BEHIND IT: the decoded row is weighed, and block 1 looked up at the budget
+  module _ (ok : sheetRefusal w ≡ 0) (room : taskArea (task w) ≤ length area) {row : List ℕ} (D : Decoded (header w) w row) {b : ℕ}
+      (q : b ≡ budgetIn w) where
+    pub budget-small : b ≤ mostBudget
+    budget-small = omega (arith, accepted w ok .budget)
+
+    pub row-ready : Ready (graphIn row) (blocksIn row) b area
+    unfolding taskArea
+    row-ready = ready (D .flat) (budget-small, rw (D .blocks, q) room)
+
+    module _ {after : List ℕ} (f : after ≡ filled (graphIn row) (blocksIn row) b area) where
+      pub area-filled : after ≡ filled (graph w) (header w .blocks) (budgetIn w) area
+      area-filled = f ∙ (λ i. filled (D .same i) (D .blocks i) (q i) area)
+
+      table : Table (graph w) (header w .blocks) (budgetIn w) after
       unfolding taskArea
-      asked = size ∙ ap (areaSize (header w .blocks)) q
+      table = subst (Table (graph w) (header w .blocks) (budgetIn w)) (sym area-filled)
+          (filled-table (graph w) (header w .blocks) (budgetIn w) area room)
 
-      budget-small : b ≤ mostBudget
-      budget-small = omega (arith, budget-fits w (accepted w ok))
-
-      pub size-small : n * (b + 1) ≤ 128 * 501
-      size-small =
-          let l = blocks w (accepted w ok) in
-          let m = budget-small in
-          mul-le-mul {n₁ = n} {m₁ = b + 1} {n₂ = 128} {m₂ = 501} (omega arith) (omega arith)
-
-      pub area-refused : length area < n * (b + 1) → Answers 21 area
-      unfolding smallArea any member from
-      area-refused l =
-          answers 21 (answer (lt-ltb (length area) (taskArea (task w)) (omega (arith, asked))) refl) (stays 21 (spared 21))
-
-      -- room enough: the area is filled, and the look-up of block 1 at the budget decides
-      module _ (room : n * (b + 1) ≤ length area) where
-        pub ready : (b ≤ mostBudget) × (areaSize (header w .blocks) b ≤ length area)
-        ready = (budget-small, omega (arith, size))
-
-        module _ {after : List ℕ} (f : after ≡ filled (graph w) (header w .blocks) b area) where
-          pub looks : Table (graph w) (header w .blocks) b after × ((b ≤ mostBudget) × (1 ≤ 1) × (1 ≤ header w .blocks) × (b ≤ b))
-          looks = (
-            subst (Table (graph w) (header w .blocks) b) (sym f) (filled-table (graph w) (header w .blocks) b area (ready .1)),
-            (budget-small, omega arith, omega (arith, blocks w (accepted w ok)), omega arith),
+      pub start-cell : Within b 1 b × HasCell after (cellOf b 1 b)
+      start-cell =
+          let n = accepted w ok .sound .form .blocks in
+          let T : Table (graph w) (header w .blocks) b after = rw q table in (
+            record { budget = budget-small; block = omega arith; cost = omega arith },
+            area-cell (header w .blocks) b 1 b after (omega arith) (omega arith) (omega arith) (T .room),
           )
 
-          passes : {t : Bool} → nothingFits (task w) ≡ t → refused weighOrder i ≡ pick t 9 0
-          unfolding smallArea
-          passes t = answer (le-ltb (length area) (taskArea (task w)) (omega (arith, asked))) t
+      pub start-low : (x : ℕ) → optionOf x ≡ lowIn b after 1 b → optionOf x ≡ lowOf (graph w) 1 (budgetIn w)
+      start-low x e =
+          let n = accepted w ok .sound .form .blocks in
+          e ∙ ap (λ (y : ℕ). lowIn y after 1 y) q ∙ low-in table 1 (budgetIn w) (omega arith) (omega arith) (omega arith)
 
-          changes : (r : ℕ) → beforeWeighing r ≡ false → after ≡ areaAfter (task w) r area
-          changes r t = f ∙ ap (λ (b : ℕ). filled (graph w) (header w .blocks) b area) q ∙ late-area w area r t
+  -- BEHIND IT: 9
+  module _ (x : ℕ) (e : optionOf x ≡ lowOf (graph w) 1 (budgetIn w)) where
+    pub fits-not : x ≡ 0 → 9 ≡ refused fitOrder i
+    unfolding nothingFits isNone
+    fits-not z = sym (tested 9 (λ i. nothingFits (task (i .sheet))) [] i (ap isNone (option-none x e z)) (none-left i))
 
-          pub nothing-fits : {x : ℕ} → optionOf x ≡ lowOf (graph w) 1 b → x ≡ 0 → Answers 9 after
-          unfolding nothingFits any member from isNone
-          nothing-fits {x} e z = answers 9 (passes (ap isNone (option-none x (e ∙ ap (lowOf (graph w) 1) q) z))) (changes 9 (spared 9))
+    pub fits : (x ≡ 0 → ⊥) → 0 ≡ refused fitOrder i
+    unfolding nothingFits isNone
+    fits n = sym (tested 9 (λ i. nothingFits (task (i .sheet))) [] i (ap isNone (option-some x e n)) (none-left i))
 
-          pub something-fits : {x : ℕ} → optionOf x ≡ lowOf (graph w) 1 b → (x ≡ 0 → ⊥) → Answers 0 after
-          unfolding nothingFits any member from isNone
-          something-fits {x} e n = answers 0 (passes (ap isNone (option-some x (e ∙ ap (lowOf (graph w) 1) q) n))) (changes 0 (spared 0))
+  -- THE WHOLE
+  abbrev pub Weighs : ℕ → List ℕ → Type 0
+  Weighs r after = (r ≡ weighed i .answer) × (after ≡ weighed i .area)
+
+  weighs : (r : ℕ) {after : List ℕ} → refused weighOrder i ≡ r → after ≡ areaAfter (task w) r area → Weighs r after
+  unfolding weighed
+  weighs r e q = (sym e, q ∙ ap (λ (x : ℕ). areaAfter (task w) x area) (sym e))
+
+  pub front-refused : {r : ℕ} → r ≡ refused frontOrder i → (r ≡ 0 → ⊥) → Weighs r area
+  unfolding weighOrder areaAfter
+  front-refused {r} q n =
+      let early : beforeWeighing r ≡ true = ap beforeWeighing q ∙ front-early i (λ z. n (q ∙ z)) in
+      weighs r (append-stops frontOrder fitOrder i (λ z. n (q ∙ z)) ∙ sym q) (rw (early, areaAfter))
+
+  -- an answer of 9's stage is not one before 9
+  late : {r : ℕ} → r ≡ refused fitOrder i → beforeWeighing r ≡ false
+  unfolding any member from nothingFits refused
+  late {r} q = go (nothingFits (task w)) refl
+    where
+      go : (t : Bool) → nothingFits (task w) ≡ t → beforeWeighing r ≡ false
+      go true e = ap beforeWeighing (q ∙ tested 9 (λ i. nothingFits (task (i .sheet))) [] i e (none-left i)) ∙ spared 9
+      go false e = ap beforeWeighing (q ∙ tested 9 (λ i. nothingFits (task (i .sheet))) [] i e (none-left i)) ∙ spared 0
+
+  pub front-passed : {r : ℕ} {after : List ℕ} → refused frontOrder i ≡ 0 → r ≡ refused fitOrder i
+      → after ≡ filled (graph w) (header w .blocks) (budgetIn w) area → Weighs r after
+  unfolding weighOrder
+  front-passed {r} z q f =
+      weighs r (append-passes frontOrder fitOrder i front-numbered z ∙ sym q) (f ∙ late-area w area r (late q))

@@ -1,30 +1,90 @@
-// A public call: conditions 1 to 8, 21 and 9 in order, and the work area filled where 1 to 8 and 21 pass.
-// Rests on graph_check, flatten, weigh and look; the promise is calls Weigh.
+// A public call: conditions 1 to 8, 21 and 9 in order, and the work area filled where 1 to 8 and 21 pass. Its two halves serve builds and moves.
+// Rests on graph_check, headers, flatten, weigh and look; the promise is calls Weigh.
 ghost use mathlib.Core.Path.{_≡_};
-ghost use Prim.Native.Nat.{_≤_};
+ghost use mathlib.Core.Bool.{true, false};
+ghost use Prim.Native.Nat.{suc, _+_, _*_, _≤_};
 ghost use lib.ListN.{length};
+ghost use Rattle.base.specs.Cells.{cellCount};
+ghost use Rattle.base.specs.Checks.{refused};
 ghost use Rattle.formats.specs.Limits.{mostBudget};
 ghost use Rattle.formats.specs.GraphSheet.{header, sheetRefusal};
-ghost use Rattle.calls.specs.SheetGraph.{graph};
-ghost use Rattle.calls.specs.Area.{areaSize, filled};
-ghost use Rattle.calls.specs.Weigh.{weighed};
+ghost use Rattle.calls.specs.SheetGraph.{task};
+ghost use Rattle.calls.specs.Area.{filled};
+ghost use Rattle.calls.specs.Weigh.{taskArea, frontOrder, fitOrder, weighed};
+ghost use Rattle.flatten.specs.Decoded.{Decoded};
 use flatten::flatten;
 use graph_check::check_graph;
 use graph_row::ROW_WORDS;
-use words::blocks;
-use words::budget;
+use headers::budget;
+use headers::read_header;
 use look::look_up;
 use weigh::weigh;
+use words::MOST_BLOCKS;
 
-// Fills the area of a sheet that passes 1 to 8: the sheet is decoded, once, and its graph weighed.
-fn weigh_graph(s: &[u16], area: &mut [u8], b: usize)
+// Room for the lists of any graph, with so many places for each block.
+pub const LISTS: usize = MOST_BLOCKS * MOST_BLOCKS;
+
+// The first condition of 1 to 8 and 21 that holds, 0 where none does.
+pub fn front(s: &[u16], area: &[u8]) -> u16
+    ensures { λ r. ⌜ r ≡ refused frontOrder (record { sheet = now (s .entry); area = now (area .entry) }) ⌝ }
+{
+    let a = check_graph(s);
+    if a != 0 {
+        return a;
+    }
+    let h = read_header(s);
+    let b = budget(s);
+    if area.len() < h.blocks * (b + 1) {
+        return 21;
+    }
+    0
+}
+
+// A sheet that passes 1 to 8, decoded into a row with room for it.
+fn decode(s: &[u16], row: &mut [u16])
     requires { ⌜ sheetRefusal (now s) ≡ 0 ⌝ }
-    requires { ⌜ (b ≤ mostBudget) × (areaSize (header (now s) .blocks) b ≤ length (now area)) ⌝ }
-    ensures { λ _. ⌜ now (area .exit) ≡ filled (graph (now (s .entry))) (header (now (s .entry)) .blocks) b (now (area .entry)) ⌝ }
+    requires { ⌜ 1 + 3 * header (now s) .blocks + header (now s) .edges ≤ length (now row) ⌝ }
+    ensures { λ _. ⌜ Decoded (header (now (s .entry))) (now (s .entry)) (now (row .exit)) ⌝ }
+{
+    let h = read_header(s);
+    flatten(s, row, h.records, h.blocks, h.edges);
+}
+
+// Behind these: the sheet is decoded, once, into a row that is lent, and its graph weighed, with lists that are lent, of r + 1 places for
+// each block. 9 where nothing fits, else 0.
+pub fn weigh_into(
+    s: &[u16],
+    row: &mut [u16],
+    lists: &mut [u8],
+    r: usize,
+    area: &mut [u8],
+) -> u16
+    requires { ⌜ (sheetRefusal (now s) ≡ 0) × (taskArea (task (now s)) ≤ length (now area)) ⌝ }
+    requires { ⌜ 1 + 3 * header (now s) .blocks + header (now s) .edges ≤ length (now row) ⌝ }
+    requires { ⌜ (header (now s) .blocks ≤ suc r) × (r ≤ mostBudget) × (cellCount (header (now s) .blocks) r ≤ length (now lists)) ⌝ }
+    ensures { λ a. ⌜ a ≡ refused fitOrder (record { sheet = now (s .entry); area = now (area .entry) }) ⌝ }
+    ensures { λ _. ⌜ now (area .exit) ≡ filled (task (now (s .entry)) .graph) (task (now (s .entry)) .blocks) (task (now (s .entry)) .largest) (now (area .entry)) ⌝ }
+    ensures { λ _. ⌜ Decoded (header (now (s .entry))) (now (s .entry)) (now (row .exit)) ⌝ }
+{
+    decode(s, row);
+    let b = budget(s);
+    weigh(row, lists, r, area, b);
+    let x = look_up(area, b, 1, b);
+    if x.low == 0 {
+        return 9;
+    }
+    0
+}
+
+// The same with a row and lists for any graph.
+fn weigh_passed(s: &[u16], area: &mut [u8]) -> u16
+    requires { ⌜ (sheetRefusal (now s) ≡ 0) × (taskArea (task (now s)) ≤ length (now area)) ⌝ }
+    ensures { λ a. ⌜ a ≡ refused fitOrder (record { sheet = now (s .entry); area = now (area .entry) }) ⌝ }
+    ensures { λ _. ⌜ now (area .exit) ≡ filled (task (now (s .entry)) .graph) (task (now (s .entry)) .blocks) (task (now (s .entry)) .largest) (now (area .entry)) ⌝ }
 {
     let mut row = [0u16; ROW_WORDS];
-    flatten(s, &mut row);
-    weigh(&row, area, b);
+    let mut lists = [0u8; LISTS];
+    weigh_into(s, &mut row, &mut lists, MOST_BLOCKS - 1, area)
 }
 
 // The first condition of 1 to 8, 21 and 9 that holds, 0 where none does.
@@ -32,19 +92,9 @@ pub fn weigh_sheet(s: &[u16], area: &mut [u8]) -> u16
     ensures { λ r. ⌜ r ≡ weighed (record { sheet = now (s .entry); area = now (area .entry) }) .answer ⌝ }
     ensures { λ _. ⌜ now (area .exit) ≡ weighed (record { sheet = now (s .entry); area = now (area .entry) }) .area ⌝ }
 {
-    let a = check_graph(s);
+    let a = front(s, area);
     if a != 0 {
         return a;
     }
-    let n = blocks(s);
-    let b = budget(s);
-    if area.len() < n * (b + 1) {
-        return 21;
-    }
-    weigh_graph(s, area, b);
-    let x = look_up(s, area, b, 1, b);
-    if x.low == 0 {
-        return 9;
-    }
-    0
+    weigh_passed(s, area)
 }
