@@ -1,77 +1,97 @@
--- A build behind weighing: what weighing refuses the build refuses, and what it passes is decided by the counts and the output's length.
+-- A build behind the front and behind weighing: what is refused there, and what is decided by the counts and the output's length.
 -- Rests on base Orders, calls Weigh and Build, specs Within.
 use mathlib.Core.Path.{_≡_, refl, sym, ap, _∙_}
 use mathlib.Core.Bool.{Bool, true, false}
-use mathlib.Core.List.{List}
+use mathlib.Core.List.{List, []}
 use Prim.Native.Nat.{ℕ, zero, suc}
 use lib.Dec.{ltb}
 use lib.ListN.{length}
 use Rattle.base.specs.Lists.{any, from, member}
 use Rattle.base.specs.Checks.{refused, lentAfter}
-use Rattle.base.proofs.Orders.{over-stops, over-passes, refused-lent}
-use Rattle.formats.specs.GraphSheet.{budgetIn, header}
+use Rattle.base.proofs.Orders.{append-stops, append-passes, over-stops, over-passes, refused-lent, tested, none-left}
+use Rattle.formats.specs.GraphSheet.{header, budgetIn}
 use Rattle.formats.specs.BoundedSheet.{heading}
-use Rattle.calls.specs.SheetGraph.{task, sheetCopies, boundedSheet}
-use Rattle.calls.specs.Weigh.{Weighing, weighOrder, beforeWeighing, areaAfter, weighed}
+use Rattle.calls.specs.SheetGraph.{task, boundedFor, boundedSheet, graph}
+use Rattle.calls.specs.Area.{filled}
+use Rattle.calls.specs.Weigh.{Weighing, nothingFits, fitOrder, frontOrder, weighOrder, beforeWeighing, areaAfter}
 use Rattle.calls.specs.Build.{Lent, tooMany, smallOutput, buildOrder, outputAfter, build}
-use Rattle.calls.proofs.Weigh.{weigh-numbered, spared, late-area}
-use Rattle.build.specs.Within.{sheetAt, answerAt, outputAt}
-
--- answers that both come after weighing leave the same area
-same-area : (w area : List ℕ) (a c : ℕ) → beforeWeighing a ≡ false → beforeWeighing c ≡ false → areaAfter (task w) a area ≡ areaAfter (task w) c area
-same-area w area a c p q = sym (late-area w area a p) ∙ late-area w area c q
+use Rattle.calls.proofs.Weigh.{weigh-numbered, front-numbered, front-early, spared, late-area}
+use Rattle.build.specs.Within.{answerAt, outputAt, built}
 
 module _ (w area out : List ℕ) where
-  abbrev pub lent : Lent
+  abbrev lent : Lent
   lent = record { sheet = w; area = area; output = out }
 
-  abbrev pub front : Weighing
+  abbrev front : Weighing
   front = record { sheet = w; area = area }
 
   abbrev front-of : Lent → Weighing
   front-of i = record { sheet = i .sheet; area = i .area }
 
-  -- WEIGHING REFUSES
-  module _ (a : ℕ) (e : weighed front .answer ≡ a) (n : a ≡ 0 → ⊥) where
-    pub refused-answer : build lent .answer ≡ a
-    unfolding build buildOrder weighed
-    refused-answer = over-stops front-of weighOrder _ lent (λ z. n (sym e ∙ z)) ∙ e
+  -- an answer, an area and an output are those of the call
+  abbrev pub Builds : ℕ → List ℕ → List ℕ → Type 0
+  Builds a x y = (a ≡ built w area out .answer) × ((x ≡ built w area out .area) × (y ≡ built w area out .output))
 
-    pub refused-area : build lent .area ≡ weighed front .area
-    unfolding build weighed
-    refused-area = ap (λ (x : ℕ). areaAfter (task w) x area) (refused-answer ∙ sym e)
+  builds : (a : ℕ) {x y : List ℕ} → refused buildOrder lent ≡ a → x ≡ areaAfter (task w) a area → y ≡ outputAfter w a out → Builds a x y
+  unfolding build
+  builds a e p q =
+      (sym e, (p ∙ ap (λ (n : ℕ). areaAfter (task w) n area) (sym e), q ∙ ap (λ (n : ℕ). outputAfter w n out) (sym e)))
 
-    pub refused-output : build lent .output ≡ out
-    unfolding build outputAfter
-    refused-output = ap (λ (x : ℕ). outputAfter w x out) refused-answer ∙ sym (refused-lent out _ a n)
+  -- WEIGHING REFUSES with the number a
+  weighing-stops : {a : ℕ} → refused weighOrder front ≡ a → (a ≡ 0 → ⊥) → refused buildOrder lent ≡ a
+  unfolding buildOrder
+  weighing-stops e n = over-stops front-of weighOrder _ lent (λ z. n (sym e ∙ z)) ∙ e
 
-  -- WEIGHING PASSES
-  module _ (e : weighed front .answer ≡ 0) where
-    abbrev B : ℕ
-    B = budgetIn w
+  pub front-refused : {a : ℕ} → a ≡ refused frontOrder front → (a ≡ 0 → ⊥) → Builds a area out
+  unfolding weighOrder areaAfter outputAfter
+  front-refused {a} q n =
+      let early : beforeWeighing a ≡ true = ap beforeWeighing q ∙ front-early front (λ z. n (q ∙ z)) in
+      builds a (weighing-stops (append-stops frontOrder fitOrder front (λ z. n (q ∙ z)) ∙ sym q) n)
+      (rw (early, areaAfter)) (refused-lent out _ a n)
 
-    pub passed-answer : build lent .answer ≡ answerAt w B (length out)
-    unfolding build buildOrder weighed answerAt refused smallOutput boundedSheet sheetCopies
-    passed-answer = over-passes front-of weighOrder _ lent weigh-numbered e
+  -- THE FRONT PASSES
+  module _ (z : refused frontOrder front ≡ 0) {x : List ℕ} (f : x ≡ filled (graph w) (header w .blocks) (budgetIn w) area) where
+    weigh-is : refused weighOrder front ≡ refused fitOrder front
+    unfolding weighOrder
+    weigh-is = append-passes frontOrder fitOrder front front-numbered z
 
-    -- 10, 22 and 0 come after weighing
-    late : (x y : Bool) → beforeWeighing (elim x [ true ↦ 10 | false ↦ elim y [ true ↦ 22 | false ↦ 0 ] ]) ≡ false
-    unfolding any member from
-    late true y = spared 10
-    late false true = spared 22
-    late false false = spared 0
-
-    pub passed-area : build lent .area ≡ weighed front .area
-    unfolding build weighed answerAt any member from
-    passed-area =
-        same-area w area _ _
-        (ap beforeWeighing passed-answer ∙ late (tooMany (heading (sheetAt w B))) (ltb (length out) (length (sheetAt w B))))
-        (ap beforeWeighing e ∙ spared 0)
-
-    pub passed-output : build lent .output ≡ outputAt w B (answerAt w B (length out)) out
-    unfolding build boundedSheet sheetCopies lentAfter outputAfter outputAt
-    passed-output = ap (λ (x : ℕ). outputAfter w x out) passed-answer ∙ same (answerAt w B (length out))
+    -- and 9's stage does not
+    nine : {a : ℕ} → a ≡ refused fitOrder front → (a ≡ 0 → ⊥) → a ≡ 9
+    unfolding refused
+    nine {a} q n = go (nothingFits (task w)) refl
       where
-        same : (x : ℕ) → outputAfter w x out ≡ outputAt w B x out
-        same zero = refl
-        same (suc x) = refl
+        go : (t : Bool) → nothingFits (task w) ≡ t → a ≡ 9
+        go true e = q ∙ tested 9 (λ i. nothingFits (task (i .sheet))) [] front e (none-left front)
+        go false e = absurd (n (q ∙ tested 9 (λ i. nothingFits (task (i .sheet))) [] front e (none-left front)))
+
+    pub fits-not : {a : ℕ} → a ≡ refused fitOrder front → (a ≡ 0 → ⊥) → Builds a x out
+    unfolding outputAfter any member from
+    fits-not {a} q n =
+        builds a (weighing-stops (weigh-is ∙ sym q) n) (f ∙ late-area w area a (ap beforeWeighing (nine q n) ∙ spared 9))
+        (refused-lent out _ a n)
+
+    -- or passes too
+    module _ (q : refused fitOrder front ≡ 0) where
+      passed : refused buildOrder lent ≡ answerAt (task w) (length out)
+      unfolding buildOrder answerAt refused smallOutput boundedSheet
+      passed = over-passes front-of weighOrder _ lent weigh-numbered (weigh-is ∙ q)
+
+      -- 10, 22 and 0 come after weighing
+      late : (x y : Bool) → beforeWeighing (elim x [ true ↦ 10 | false ↦ elim y [ true ↦ 22 | false ↦ 0 ] ]) ≡ false
+      unfolding any member from
+      late true y = spared 10
+      late false true = spared 22
+      late false false = spared 0
+
+      answer-late : beforeWeighing (answerAt (task w) (length out)) ≡ false
+      unfolding answerAt
+      answer-late = late (tooMany (heading (boundedFor (task w)))) (ltb (length out) (length (boundedFor (task w))))
+
+      same : (a : ℕ) → outputAt (task w) a out ≡ outputAfter w a out
+      unfolding boundedSheet lentAfter outputAfter outputAt
+      same zero = refl
+      same (suc a) = refl
+
+      pub fits : {a : ℕ} {y : List ℕ} → a ≡ answerAt (task w) (length out) → y ≡ outputAt (task w) a out → Builds a x y
+      fits {a} e o =
+          builds a (passed ∙ sym e) (f ∙ late-area w area a (ap beforeWeighing e ∙ answer-late)) (o ∙ same a)

@@ -1,6 +1,6 @@
 -- 10, 22 and 0 by the counts: many-copies, many-edges, short-row, long-row
 pub mod Answers
--- a build behind weighing: refused-answer, passed-answer, ..
+-- a build behind the front and behind weighing: front-refused, nothing-fits, weighed
 pub mod Front
--- what weighing's answer 0 gives: is-accepted, has-table, ..
-pub mod Passed
+-- what is known of marked copies, of rows that are lent, and of a decoded sheet: served, rooms, ..
+pub mod Ready

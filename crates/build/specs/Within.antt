@@ -1,32 +1,40 @@
--- A build within a budget that is handed down: the bounded sheet at that budget, the answers 10, 22 and 0, and the output row after them.
--- Rests on formats BoundedSheet, calls SheetGraph and Build, tables.
+-- A build of a task: the answers 10, 22 and 0, and the output row after them. A build of what is lent, and of what passes 1 to 8 and 21.
+-- Rests on theory Tasks, formats BoundedSheet, calls SheetGraph, Weigh and Build.
+use mathlib.Core.Path.{_≡_}
 use mathlib.Core.Bool.{true, false}
 use mathlib.Core.List.{List, _++_}
-use Prim.Native.Nat.{ℕ, zero, suc}
+use Prim.Native.Nat.{ℕ, zero, suc, _+_, _*_, _≤_}
 use lib.Dec.{ltb}
 use lib.ListN.{length, drop}
-use Rattle.formats.specs.BoundedSheet.{Row, sheetWords, heading}
-use Rattle.calls.specs.SheetGraph.{graph, rowsOf}
+use Rattle.base.specs.Cells.{cellCount}
+use Rattle.theory.specs.Tasks.{Task}
+use Rattle.formats.specs.GraphSheet.{header, sheetRefusal}
+use Rattle.formats.specs.BoundedSheet.{heading}
+use Rattle.calls.specs.SheetGraph.{task, boundedFor}
+use Rattle.calls.specs.Weigh.{taskArea}
 use Rattle.calls.specs.Build.{Built, tooMany, build}
-use Rattle.tables.specs.Tables.{sheetCopiesAt}
-
--- the rows and the words of the bounded sheet at the budget b
-abbrev pub rowsAt : List ℕ → ℕ → List Row
-rowsAt w b = rowsOf (graph w) (sheetCopiesAt w b)
-
-abbrev pub sheetAt : List ℕ → ℕ → List ℕ
-sheetAt w b = sheetWords b (rowsAt w b)
 
 -- 10, then 22 for an output row of n words
-unfoldable pub answerAt : List ℕ → ℕ → ℕ → ℕ
-answerAt w b n =
-    elim (tooMany (heading (sheetAt w b))) [ true ↦ 10 | false ↦ elim (ltb n (length (sheetAt w b))) [ true ↦ 22 | false ↦ 0 ] ]
+unfoldable pub answerAt : Task → ℕ → ℕ
+answerAt T n =
+    elim (tooMany (heading (boundedFor T))) [ true ↦ 10 | false ↦ elim (ltb n (length (boundedFor T))) [ true ↦ 22 | false ↦ 0 ] ]
 
 -- the output row after the answer a
-unfoldable pub outputAt : List ℕ → ℕ → ℕ → List ℕ → List ℕ
-outputAt w b zero out = sheetAt w b ++ drop (length (sheetAt w b)) out
-outputAt w b (suc n) out = out
+unfoldable pub outputAt : Task → ℕ → List ℕ → List ℕ
+outputAt T zero out = boundedFor T ++ drop (length (boundedFor T)) out
+outputAt T (suc n) out = out
 
 -- a build of what is lent
 abbrev pub built : List ℕ → List ℕ → List ℕ → Built
 built w area out = build (record { sheet = w; area = area; output = out })
+
+-- a sheet that passes 1 to 8, with area enough
+pub record Passes (w area : List ℕ) : Type 0 where
+  pub ok : sheetRefusal w ≡ 0
+  pub room : taskArea (task w) ≤ length area
+
+-- a sheet of at most n blocks, m edges and k cells
+pub record Within (n m k : ℕ) (w : List ℕ) : Type 0 where
+  pub blocks : header w .blocks ≤ n
+  pub edges : header w .edges ≤ m
+  pub cells : cellCount (task w .blocks) (task w .largest) ≤ k

@@ -1,65 +1,89 @@
 // THE BUILD, a public call: from a graph sheet to its bounded sheet in the output row, with the completion table in the work area.
-// Rests on weigh_sheet, degrees, lows, descend, number, write. The rows of a build are local here, once; the calls below lend them on.
+// Rests on weigh_sheet, look, descend, number, write. The rows of a build are local here, once, as large as the sheet asks; the calls below
+// lend them on.
 ghost use mathlib.Core.Path.{_≡_};
-ghost use mathlib.Core.Bool.{false};
-ghost use Prim.Native.Nat.{suc, _-_, _≤_, _<_};
-ghost use lib.ListN.{length};
+ghost use mathlib.Core.Bool.{true, false};
+ghost use mathlib.Core.List.{_++_};
+ghost use Prim.Native.Nat.{suc, _+_, _-_, _*_, _≤_, _<_};
+ghost use lib.ListN.{length, drop};
+ghost use Rattle.base.specs.Cells.{cellCount};
 ghost use Rattle.base.specs.Lists.{isNone};
 ghost use Rattle.theory.specs.Completions.{lowOf};
-ghost use Rattle.formats.specs.Limits.{mostBudget, mostBoundedEdges};
-ghost use Rattle.formats.specs.GraphSheet.{header, sheetRefusal};
-ghost use Rattle.formats.specs.BoundedSheet.{edgeCount};
-ghost use Rattle.calls.specs.SheetGraph.{graph};
-ghost use Rattle.calls.specs.Area.{areaSize, Table};
-ghost use Rattle.tables.specs.Tables.{sheetCopiesAt, Exactly, Numbers, Degrees};
-ghost use Rattle.tables.specs.Rows.{sheetRowsAt};
+ghost use Rattle.theory.specs.Tasks.{copiesIn};
+ghost use Rattle.formats.specs.Limits.{mostBudget, mostCopies, mostBoundedEdges};
+ghost use Rattle.formats.specs.GraphSheet.{header};
+ghost use Rattle.calls.specs.SheetGraph.{task, boundedFor};
+ghost use Rattle.calls.specs.Area.{Table};
+ghost use Rattle.tables.specs.Tables.{markedCopies, Numbers};
+ghost use Rattle.tables.specs.Rows.{edgesOf};
+ghost use Rattle.graph_row.specs.GraphRow.{blocksIn, graphIn, taskIn, Flat};
 ghost use Rattle.descend.specs.Marks.{Clear};
-ghost use Rattle.build.specs.Within.{answerAt, outputAt, built};
-use bounded_words::MOST_BOUNDED_EDGES;
-use bounded_words::MOST_COPIES;
-use degrees::DEGREES;
-use degrees::fill_degrees;
+ghost use Rattle.build.specs.Within.{answerAt, outputAt, built, Passes, Within};
 use descend::reach;
-use words::MOST_CELLS;
-use words::budget;
-use lows::fill_lows;
-use number::cell_count;
+use graph_row::ROW_WORDS;
+use graph_row::blocks_in;
+use headers::HEADING_WORDS;
+use headers::budget;
+use headers::read_header;
+use look::fill_lows;
 use number::number;
-use weigh_sheet::weigh_sheet;
-use write::write_sheet;
+use tables::cell_count;
+use weigh_sheet::LISTS;
+use weigh_sheet::front;
+use weigh_sheet::weigh_into;
+use words::MOST_BLOCKS;
+use words::MOST_BOUNDED_EDGES;
+use words::MOST_CELLS;
+use words::MOST_COPIES;
+use write::put_three;
+use write::write_records;
 
-// The most cells of the rows that a small build clears: a large one has room for any sheet.
-const SMALL_CELLS: usize = 4096;
+// BEHIND WEIGHING
 
-// Marks exactly the copies of a weighed graph sheet within the budget b; the table is the look-up's row meanwhile.
+// Marks exactly the copies of a weighed graph within the budget b; the table is the look-up's row meanwhile.
 // Answers one more than the edges that there is room for beside those of the copies, 0 where there are too many.
-fn find_copies(
-    s: &[u16],
-    area: &[u8],
-    degrees: &[u16],
-    table: &mut [u16],
-    marks: &mut [u8],
-    b: usize,
-) -> usize
-    requires { ⌜ sheetRefusal (now s) ≡ 0 ⌝ }
-    requires { ⌜ (b ≤ mostBudget) × (isNone (lowOf (graph (now s)) 1 b) ≡ false) ⌝ }
-    requires { ⌜ Table (graph (now s)) (header (now s) .blocks) b (now area) ⌝ }
-    requires { ⌜ (areaSize (header (now s) .blocks) b ≤ length (now table)) × (areaSize (header (now s) .blocks) b ≤ length (now marks)) ⌝ }
+fn find_copies(row: &[u16], area: &[u8], table: &mut [u16], marks: &mut [u8], b: usize) -> usize
+    requires { ⌜ Flat (now row) ⌝ }
+    requires { ⌜ (b ≤ mostBudget) × (isNone (lowOf (graphIn (now row)) 1 b) ≡ false) ⌝ }
+    requires { ⌜ Table (graphIn (now row)) (blocksIn (now row)) b (now area) ⌝ }
+    requires { ⌜ (cellCount (blocksIn (now row)) b ≤ length (now table)) × (cellCount (blocksIn (now row)) b ≤ length (now marks)) ⌝ }
     requires { ⌜ Clear (now marks) ⌝ }
-    requires { ⌜ Degrees (now s) (now degrees) ⌝ }
-    ensures { λ _. ⌜ length (now (table .exit)) ≡ length (now (table .entry)) ⌝ }
-    ensures { λ _. ⌜ length (now (marks .exit)) ≡ length (now (marks .entry)) ⌝ }
-    ensures { λ r. ⌜ r ≡ suc mostBoundedEdges - edgeCount (sheetRowsAt (now (s .entry)) b) ⌝ }
-    ensures { λ r. ⌜ (0 < r → Exactly (now (s .entry)) b (now (marks .exit))) ⌝ }
+    ensures { λ _. ⌜ (length (now (table .exit)) ≡ length (now (table .entry))) × (length (now (marks .exit)) ≡ length (now (marks .entry))) ⌝ }
+    ensures { λ r. ⌜ r ≡ suc mostBoundedEdges - edgesOf (graphIn (now (row .entry))) (copiesIn (taskIn (now (row .entry)) b)) ⌝ }
+    ensures { λ r. ⌜ (0 < r → markedCopies (blocksIn (now (row .entry))) b (now (marks .exit)) ≡ copiesIn (taskIn (now (row .entry)) b)) ⌝ }
 {
-    fill_lows(s, area, table, b);
-    reach(s, table, degrees, marks, b)
+    let n = blocks_in(row);
+    fill_lows(area, table, n, b);
+    reach(row, table, marks, b)
 }
 
-// With the copies marked, their edges few enough and the copies numbered: 10 for the copies, 22, or 0 and the words in the output row.
+// Writes the bounded sheet, whose copies are marked and numbered and whose edges are counted: the header, then the records.
+fn write_sheet(
+    row: &[u16],
+    marks: &[u8],
+    numbers: &[u16],
+    out: &mut [u16],
+    b: usize,
+    copies: usize,
+    edges: usize,
+)
+    requires { ⌜ Flat (now row) ⌝ }
+    requires { ⌜ (b ≤ mostBudget) × (isNone (lowOf (graphIn (now row)) 1 b) ≡ false) ⌝ }
+    requires { ⌜ (cellCount (blocksIn (now row)) b ≤ length (now marks)) × (markedCopies (blocksIn (now row)) b (now marks) ≡ copiesIn (taskIn (now row) b)) ⌝ }
+    requires { ⌜ Numbers (lowOf (graphIn (now row))) (blocksIn (now row)) b (copiesIn (taskIn (now row) b)) (now numbers) ⌝ }
+    requires { ⌜ (copies ≡ length (copiesIn (taskIn (now row) b))) × (copies ≤ mostCopies) ⌝ }
+    requires { ⌜ (edges ≡ edgesOf (graphIn (now row)) (copiesIn (taskIn (now row) b))) × (edges ≤ mostBoundedEdges) ⌝ }
+    requires { ⌜ length (boundedFor (taskIn (now row) b)) ≤ length (now out) ⌝ }
+    ensures { λ _. ⌜ now (out .exit) ≡ boundedFor (taskIn (now (row .entry)) b)
+        ++ drop (length (boundedFor (taskIn (now (row .entry)) b))) (now (out .entry)) ⌝ }
+{
+    put_three(out, 0, copies, edges, b);
+    write_records(row, marks, numbers, out, b, HEADING_WORDS, copies);
+}
+
+// With the copies marked and numbered and their edges few enough: 10 for the copies, 22, or 0 and the words in the output row.
 fn write_numbered(
-    s: &[u16],
-    degrees: &[u16],
+    row: &[u16],
     marks: &[u8],
     numbers: &[u16],
     out: &mut [u16],
@@ -67,98 +91,209 @@ fn write_numbered(
     copies: usize,
     edges: usize,
 ) -> u16
-    requires { ⌜ sheetRefusal (now s) ≡ 0 ⌝ }
-    requires { ⌜ b ≤ mostBudget ⌝ }
-    requires { ⌜ Exactly (now s) b (now marks) ⌝ }
-    requires { ⌜ Numbers (now s) b (now numbers) ⌝ }
-    requires { ⌜ copies ≡ length (sheetCopiesAt (now s) b) ⌝ }
-    requires { ⌜ (edges ≡ edgeCount (sheetRowsAt (now s) b)) × (edges ≤ mostBoundedEdges) ⌝ }
-    requires { ⌜ Degrees (now s) (now degrees) ⌝ }
-    ensures { λ r. ⌜ r ≡ answerAt (now (s .entry)) b (length (now (out .entry))) ⌝ }
-    ensures { λ r. ⌜ now (out .exit) ≡ outputAt (now (s .entry)) b r (now (out .entry)) ⌝ }
+    requires { ⌜ Flat (now row) ⌝ }
+    requires { ⌜ (b ≤ mostBudget) × (isNone (lowOf (graphIn (now row)) 1 b) ≡ false) ⌝ }
+    requires { ⌜ (cellCount (blocksIn (now row)) b ≤ length (now marks)) × (markedCopies (blocksIn (now row)) b (now marks) ≡ copiesIn (taskIn (now row) b)) ⌝ }
+    requires { ⌜ Numbers (lowOf (graphIn (now row))) (blocksIn (now row)) b (copiesIn (taskIn (now row) b)) (now numbers) ⌝ }
+    requires { ⌜ copies ≡ length (copiesIn (taskIn (now row) b)) ⌝ }
+    requires { ⌜ (edges ≡ edgesOf (graphIn (now row)) (copiesIn (taskIn (now row) b))) × (edges ≤ mostBoundedEdges) ⌝ }
+    ensures { λ r. ⌜ r ≡ answerAt (taskIn (now (row .entry)) b) (length (now (out .entry))) ⌝ }
+    ensures { λ r. ⌜ now (out .exit) ≡ outputAt (taskIn (now (row .entry)) b) r (now (out .entry)) ⌝ }
 {
     if MOST_COPIES < copies {
         return 10;
     }
-    if out.len() < 3 + 3 * copies + 2 * edges {
+    if out.len() < HEADING_WORDS + 3 * copies + 2 * edges {
         return 22;
     }
-    write_sheet(s, degrees, marks, numbers, out, b, copies, edges);
+    write_sheet(row, marks, numbers, out, b, copies, edges);
     0
 }
 
-// The bounded sheet within the budget b, in rows that are lent: 10, 22, or 0 and the words in the output row.
-fn build_in_rows(
-    s: &[u16],
+// The bounded sheet of a weighed graph within the budget b, in rows that are lent: 10, 22, or 0 and the words in the output row.
+fn build_weighed(
+    row: &[u16],
     area: &[u8],
-    degrees: &[u16],
     table: &mut [u16],
     marks: &mut [u8],
     out: &mut [u16],
     b: usize,
 ) -> u16
-    requires { ⌜ sheetRefusal (now s) ≡ 0 ⌝ }
-    requires { ⌜ (b ≤ mostBudget) × (isNone (lowOf (graph (now s)) 1 b) ≡ false) ⌝ }
-    requires { ⌜ Table (graph (now s)) (header (now s) .blocks) b (now area) ⌝ }
-    requires { ⌜ (areaSize (header (now s) .blocks) b ≤ length (now table)) × (areaSize (header (now s) .blocks) b ≤ length (now marks)) ⌝ }
+    requires { ⌜ Flat (now row) ⌝ }
+    requires { ⌜ (b ≤ mostBudget) × (isNone (lowOf (graphIn (now row)) 1 b) ≡ false) ⌝ }
+    requires { ⌜ Table (graphIn (now row)) (blocksIn (now row)) b (now area) ⌝ }
+    requires { ⌜ (cellCount (blocksIn (now row)) b ≤ length (now table)) × (cellCount (blocksIn (now row)) b ≤ length (now marks)) ⌝ }
     requires { ⌜ Clear (now marks) ⌝ }
-    requires { ⌜ Degrees (now s) (now degrees) ⌝ }
-    ensures { λ r. ⌜ r ≡ answerAt (now (s .entry)) b (length (now (out .entry))) ⌝ }
-    ensures { λ r. ⌜ now (out .exit) ≡ outputAt (now (s .entry)) b r (now (out .entry)) ⌝ }
+    ensures { λ r. ⌜ r ≡ answerAt (taskIn (now (row .entry)) b) (length (now (out .entry))) ⌝ }
+    ensures { λ r. ⌜ now (out .exit) ≡ outputAt (taskIn (now (row .entry)) b) r (now (out .entry)) ⌝ }
 {
-    let room = find_copies(s, area, degrees, table, marks, b);
+    let room = find_copies(row, area, table, marks, b);
     if room == 0 {
         return 10;
     }
     let edges = MOST_BOUNDED_EDGES + 1 - room;
-    let copies = number(s, area, marks, table, b);
-    write_numbered(s, degrees, marks, table, out, b, copies, edges)
+    let n = blocks_in(row);
+    let copies = number(area, marks, table, n, b);
+    write_numbered(row, marks, table, out, b, copies, edges)
 }
 
-// The same, in local rows for a sheet of few cells.
-fn build_small(s: &[u16], area: &[u8], degrees: &[u16], out: &mut [u16], b: usize) -> u16
-    requires { ⌜ sheetRefusal (now s) ≡ 0 ⌝ }
-    requires { ⌜ (b ≤ mostBudget) × (isNone (lowOf (graph (now s)) 1 b) ≡ false) ⌝ }
-    requires { ⌜ Table (graph (now s)) (header (now s) .blocks) b (now area) ⌝ }
-    requires { ⌜ Degrees (now s) (now degrees) ⌝ }
-    requires { ⌜ areaSize (header (now s) .blocks) b ≤ 4096 ⌝ }
-    ensures { λ r. ⌜ r ≡ answerAt (now (s .entry)) b (length (now (out .entry))) ⌝ }
-    ensures { λ r. ⌜ now (out .exit) ≡ outputAt (now (s .entry)) b r (now (out .entry)) ⌝ }
+// BEHIND 1 TO 8 AND 21
+
+// The build in rows that are lent.
+fn build_in_rows(
+    s: &[u16],
+    area: &mut [u8],
+    out: &mut [u16],
+    row: &mut [u16],
+    lists: &mut [u8],
+    r: usize,
+    table: &mut [u16],
+    marks: &mut [u8],
+) -> u16
+    requires { ⌜ Passes (now s) (now area) ⌝ }
+    requires { ⌜ 1 + 3 * header (now s) .blocks + header (now s) .edges ≤ length (now row) ⌝ }
+    requires { ⌜ (header (now s) .blocks ≤ suc r) × (r ≤ mostBudget) × (cellCount (header (now s) .blocks) r ≤ length (now lists)) ⌝ }
+    requires { ⌜ (cellCount (task (now s) .blocks) (task (now s) .largest) ≤ length (now table))
+        × (cellCount (task (now s) .blocks) (task (now s) .largest) ≤ length (now marks)) ⌝ }
+    requires { ⌜ Clear (now marks) ⌝ }
+    ensures { λ a. ⌜ a ≡ built (now (s .entry)) (now (area .entry)) (now (out .entry)) .answer ⌝ }
+    ensures { λ _. ⌜ now (area .exit) ≡ built (now (s .entry)) (now (area .entry)) (now (out .entry)) .area ⌝ }
+    ensures { λ _. ⌜ now (out .exit) ≡ built (now (s .entry)) (now (area .entry)) (now (out .entry)) .output ⌝ }
 {
-    let mut table = [0u16; SMALL_CELLS];
-    let mut marks = [0u8; SMALL_CELLS];
-    build_in_rows(s, area, degrees, &mut table, &mut marks, out, b)
+    let a = weigh_into(s, row, lists, r, area);
+    if a != 0 {
+        return a;
+    }
+    let b = budget(s);
+    build_weighed(row, area, table, marks, out, b)
 }
 
-// The same, in local rows for any sheet.
-fn build_large(s: &[u16], area: &[u8], degrees: &[u16], out: &mut [u16], b: usize) -> u16
-    requires { ⌜ sheetRefusal (now s) ≡ 0 ⌝ }
-    requires { ⌜ (b ≤ mostBudget) × (isNone (lowOf (graph (now s)) 1 b) ≡ false) ⌝ }
-    requires { ⌜ Table (graph (now s)) (header (now s) .blocks) b (now area) ⌝ }
-    requires { ⌜ Degrees (now s) (now degrees) ⌝ }
-    ensures { λ r. ⌜ r ≡ answerAt (now (s .entry)) b (length (now (out .entry))) ⌝ }
-    ensures { λ r. ⌜ now (out .exit) ≡ outputAt (now (s .entry)) b r (now (out .entry)) ⌝ }
+// The sizes of the rows of a small build, and of a middling one.
+const FEW_BLOCKS: usize = 8;
+
+const FEW_EDGES: usize = 32;
+
+const FEW_CELLS: usize = 128;
+
+const SOME_BLOCKS: usize = 32;
+
+const SOME_CELLS: usize = 4096;
+
+// In local rows for a small sheet.
+fn build_small(s: &[u16], area: &mut [u8], out: &mut [u16]) -> u16
+    requires { ⌜ Passes (now s) (now area) ⌝ }
+    requires { ⌜ Within 8 32 128 (now s) ⌝ }
+    ensures { λ a. ⌜ a ≡ built (now (s .entry)) (now (area .entry)) (now (out .entry)) .answer ⌝ }
+    ensures { λ _. ⌜ now (area .exit) ≡ built (now (s .entry)) (now (area .entry)) (now (out .entry)) .area ⌝ }
+    ensures { λ _. ⌜ now (out .exit) ≡ built (now (s .entry)) (now (area .entry)) (now (out .entry)) .output ⌝ }
 {
+    let mut row = [0u16; 1 + 3 * FEW_BLOCKS + FEW_EDGES];
+    let mut lists = [0u8; FEW_BLOCKS * FEW_BLOCKS];
+    let mut table = [0u16; FEW_CELLS];
+    let mut marks = [0u8; FEW_CELLS];
+    build_in_rows(
+        s,
+        area,
+        out,
+        &mut row,
+        &mut lists,
+        FEW_BLOCKS - 1,
+        &mut table,
+        &mut marks,
+    )
+}
+
+// In local rows for a middling sheet.
+fn build_middling(s: &[u16], area: &mut [u8], out: &mut [u16]) -> u16
+    requires { ⌜ Passes (now s) (now area) ⌝ }
+    requires { ⌜ Within 32 512 4096 (now s) ⌝ }
+    ensures { λ a. ⌜ a ≡ built (now (s .entry)) (now (area .entry)) (now (out .entry)) .answer ⌝ }
+    ensures { λ _. ⌜ now (area .exit) ≡ built (now (s .entry)) (now (area .entry)) (now (out .entry)) .area ⌝ }
+    ensures { λ _. ⌜ now (out .exit) ≡ built (now (s .entry)) (now (area .entry)) (now (out .entry)) .output ⌝ }
+{
+    let mut row = [0u16; ROW_WORDS];
+    let mut lists = [0u8; SOME_BLOCKS * SOME_BLOCKS];
+    let mut table = [0u16; SOME_CELLS];
+    let mut marks = [0u8; SOME_CELLS];
+    build_in_rows(
+        s,
+        area,
+        out,
+        &mut row,
+        &mut lists,
+        SOME_BLOCKS - 1,
+        &mut table,
+        &mut marks,
+    )
+}
+
+// In local rows for any sheet.
+fn build_large(s: &[u16], area: &mut [u8], out: &mut [u16]) -> u16
+    requires { ⌜ Passes (now s) (now area) ⌝ }
+    ensures { λ a. ⌜ a ≡ built (now (s .entry)) (now (area .entry)) (now (out .entry)) .answer ⌝ }
+    ensures { λ _. ⌜ now (area .exit) ≡ built (now (s .entry)) (now (area .entry)) (now (out .entry)) .area ⌝ }
+    ensures { λ _. ⌜ now (out .exit) ≡ built (now (s .entry)) (now (area .entry)) (now (out .entry)) .output ⌝ }
+{
+    let mut row = [0u16; ROW_WORDS];
+    let mut lists = [0u8; LISTS];
     let mut table = [0u16; MOST_CELLS];
     let mut marks = [0u8; MOST_CELLS];
-    build_in_rows(s, area, degrees, &mut table, &mut marks, out, b)
+    build_in_rows(
+        s,
+        area,
+        out,
+        &mut row,
+        &mut lists,
+        MOST_BLOCKS - 1,
+        &mut table,
+        &mut marks,
+    )
 }
 
-// The bounded sheet of a weighed graph sheet within the budget b; the rows are local, once, of one of two sizes.
-fn build_weighed(s: &[u16], area: &[u8], out: &mut [u16], b: usize) -> u16
-    requires { ⌜ sheetRefusal (now s) ≡ 0 ⌝ }
-    requires { ⌜ (b ≤ mostBudget) × (isNone (lowOf (graph (now s)) 1 b) ≡ false) ⌝ }
-    requires { ⌜ Table (graph (now s)) (header (now s) .blocks) b (now area) ⌝ }
-    ensures { λ r. ⌜ r ≡ answerAt (now (s .entry)) b (length (now (out .entry))) ⌝ }
-    ensures { λ r. ⌜ now (out .exit) ≡ outputAt (now (s .entry)) b r (now (out .entry)) ⌝ }
+// A build that is not small. Large rows are asked for at two places, which keeps them out of this function's own frame.
+fn build_more(s: &[u16], area: &mut [u8], out: &mut [u16], n: usize, cells: usize) -> u16
+    requires { ⌜ Passes (now s) (now area) ⌝ }
+    requires { ⌜ (n ≡ header (now s) .blocks) × (cells ≡ cellCount (task (now s) .blocks) (task (now s) .largest)) ⌝ }
+    ensures { λ a. ⌜ a ≡ built (now (s .entry)) (now (area .entry)) (now (out .entry)) .answer ⌝ }
+    ensures { λ _. ⌜ now (area .exit) ≡ built (now (s .entry)) (now (area .entry)) (now (out .entry)) .area ⌝ }
+    ensures { λ _. ⌜ now (out .exit) ≡ built (now (s .entry)) (now (area .entry)) (now (out .entry)) .output ⌝ }
 {
-    let mut degrees = [0u16; DEGREES];
-    fill_degrees(s, &mut degrees);
-    let cells = cell_count(s, b);
-    if cells <= SMALL_CELLS {
-        return build_small(s, area, &degrees, out, b);
+    if SOME_BLOCKS < n {
+        return build_large(s, area, out);
     }
-    build_large(s, area, &degrees, out, b)
+    if SOME_CELLS < cells {
+        return build_large(s, area, out);
+    }
+    build_middling(s, area, out)
+}
+
+// Whether a sheet is small.
+fn is_small(n: usize, m: usize, cells: usize) -> bool
+    ensures { λ r. ⌜ (r ≡ true → (n ≤ 8) × (m ≤ 32) × (cells ≤ 128)) ⌝ }
+{
+    if FEW_BLOCKS < n {
+        return false;
+    }
+    if FEW_EDGES < m {
+        return false;
+    }
+    cells <= FEW_CELLS
+}
+
+// In rows as large as the sheet asks.
+fn build_passed(s: &[u16], area: &mut [u8], out: &mut [u16]) -> u16
+    requires { ⌜ Passes (now s) (now area) ⌝ }
+    ensures { λ a. ⌜ a ≡ built (now (s .entry)) (now (area .entry)) (now (out .entry)) .answer ⌝ }
+    ensures { λ _. ⌜ now (area .exit) ≡ built (now (s .entry)) (now (area .entry)) (now (out .entry)) .area ⌝ }
+    ensures { λ _. ⌜ now (out .exit) ≡ built (now (s .entry)) (now (area .entry)) (now (out .entry)) .output ⌝ }
+{
+    let h = read_header(s);
+    let b = budget(s);
+    let cells = cell_count(h.blocks, b);
+    if is_small(h.blocks, h.edges, cells) {
+        return build_small(s, area, out);
+    }
+    build_more(s, area, out, h.blocks, cells)
 }
 
 // 1 to 8, 21, 9, 10, 22 in this order, else 0 and the bounded sheet in the first words of the output row.
@@ -167,10 +302,9 @@ pub fn build(s: &[u16], area: &mut [u8], out: &mut [u16]) -> u16
     ensures { λ _. ⌜ now (area .exit) ≡ built (now (s .entry)) (now (area .entry)) (now (out .entry)) .area ⌝ }
     ensures { λ _. ⌜ now (out .exit) ≡ built (now (s .entry)) (now (area .entry)) (now (out .entry)) .output ⌝ }
 {
-    let a = weigh_sheet(s, area);
+    let a = front(s, area);
     if a != 0 {
         return a;
     }
-    let b = budget(s);
-    build_weighed(s, area, out, b)
+    build_passed(s, area, out)
 }

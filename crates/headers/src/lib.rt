@@ -46,6 +46,9 @@ pub struct Heading {
     pub records: usize,
 }
 
+// The words of the header that a build writes.
+pub const HEADING_WORDS: usize = 3;
+
 // "Three words: C copies, F edges, B"; the records begin behind them.
 pub fn read_heading(s: &[u16]) -> Heading
     requires { ⌜ leastWords ≤ length (now s) ⌝ }

@@ -1,46 +1,53 @@
--- `build::build_in_rows` meets its contract: 10 by the edges, else what `write_numbered` answers.
--- Rests on `find_copies`, number `number`, `write_numbered`, Answers.
-use mathlib.Core.Path.{refl, sym}
-use native.Mathlib.Omega.{arith}
+-- The sheet is decoded and weighed; 9, or the build of the weighed graph.
+-- Rests on formats Accepted, Front, Ready.
 use borrow.Author.Needs.{needs}
+use mathlib.Core.Path.{_≡_, sym, ap, _∙_}
+use Prim.Native.Nat.{ℕ, _≤_}
+use native.Mathlib.Omega.{arith}
 use lib.ListN.{length}
-use Rattle.build.specs.Within.{outputAt}
-use Rattle.build.proofs.Answers.{many-edges}
+use Rattle.theory.specs.Tasks.{Task}
+use Rattle.formats.proofs.Accepted.{accepted}
+use Rattle.build.specs.Within.{answerAt, outputAt}
+use Rattle.build.proofs.Front.{fits-not, fits}
+use Rattle.build.proofs.Ready.{front-passes, same-task, small-budget, something-fits, row-table, row-cells}
 use Rattle.build.proofs.build_in_rows.Statement.{statement}
 use Rattle.build.proofs.build_in_rows.Tie as tie
 
+weigh-into-requires : tie.Need-weigh-into-requires
+weigh-into-requires c κs = let p = c .before .before .before .before .before .before .before .before .before .before .pre in ((p .0 .ok, p .0 .room), (p .1 .0, p .1 .1 .0))
+
 returns : tie.Need-returns
-unfolding outputAt
 returns c =
-    let f = c .before .before .before .before .before in
-    let z = f .before .before .before .before .before .before .before .before .before in
-    let e = f .find-copies .ensures .1 .1 .0 in
-    (sym (many-edges (z .args .s .now) (z .args .b) (length (z .args .out .now)) (omega (arith, e))), refl)
+    let z = c .before .before .before .before .before .before .before .before .before .before .before .before .before .before .before .before .before .before in
+    let e = c .before .before .before .before .before .before .before .weigh-into .ensures in
+    fits-not (z .args .s .now) (z .args .area .now) (z .args .out .now) (front-passes _ _ (z .pre .0)) (e .1 .0) (e .0) (c .if1 .taken)
 
-sub-edges : tie.Need-sub-edges
-sub-edges c = omega (arith, c .before .before .before .before .before .find-copies .ensures .1 .1 .0)
+budget-requires : tie.Need-budget-requires
+budget-requires c κs = accepted _ (c .before .before .before .before .before .before .before .before .before .before .before .before .before .before .before .before .before .before .pre .0 .ok) .long
 
-number-requires : tie.Need-number-requires
-number-requires c κs =
-    let f = c .before .before .before .before .before .before .before in
-    let z = f .before .before .before .before .before .before .before .before .before in
-    let e = f .find-copies .ensures in
-    (z .pre .0, ((z .pre .1 .0 .0, omega (arith, e .0, z .pre .1 .1 .1 .0 .0)), (z .pre .1 .1 .0, e .1 .1 .1 (omega arith))))
+build-weighed-requires : tie.Need-build-weighed-requires
+build-weighed-requires c κs =
+    let z = c .before .before .before .before .before .before .before .before .before .before .before .before .before .before .before .before .before .before .before .before .before .before .before .before in
+    let P = z .pre .0 in
+    let e = c .before .before .before .before .before .before .before .before .before .before .before .before .before .weigh-into .ensures in
+    let D = e .1 .1 in
+    let b = c .before .before .before .before .before .budget .ensures .0 in
+    let k = z .pre .1 .1 .1 .0 in
+    (D .flat, ((small-budget _ _ P D b, something-fits _ _ P D b (sym (e .0) ∙ c .before .before .before .before .before .before .if1 .left)),
+    (row-table _ _ P D b (e .1 .0), ((row-cells _ _ P D b (k .0), row-cells _ _ P D b (k .1)), z .pre .1 .1 .1 .1))))
 
-write-numbered-requires : tie.Need-write-numbered-requires
-write-numbered-requires c κs =
-    let n = c .before .before .before .before .before .number .ensures in
-    let f = c .before .before .before .before .before .before .before .before .before .before .before .before .before in
-    let z = f .before .before .before .before .before .before .before .before .before in
-    let e = f .find-copies .ensures .1 .1 in
-    let p = z .pre .1 in
-    (z .pre .0, (p .0 .0, (e .1 (omega arith), (n .1 .1, (n .0, ((omega (arith, e .0), omega (arith, e .0)), p .1 .1 .1 .1))))))
-
-find-copies-requires : tie.Need-find-copies-requires
-find-copies-requires c κs = c .before .before .before .before .before .before .before .before .pre
+returns-2 : tie.Need-returns-2
+returns-2 c =
+    let z = c .before .before .before .before .before .before .before .before .before .before .before .before .before .before .before .before .before .before .before .before .before .before .before .before .before .before .before .before .before .before .before in
+    let P = z .pre .0 in
+    let e = c .before .before .before .before .before .before .before .before .before .before .before .before .before .before .before .before .before .before .before .before .weigh-into .ensures in
+    let T = same-task (z .args .s .now) (z .args .area .now) P (e .1 .1) (c .before .before .before .before .before .before .before .before .before .before .before .before .budget .ensures .0) in
+    let r = c .before .before .before .before .before .before .build-weighed .ensures in
+    let out = z .args .out .now in
+    fits (z .args .s .now) (z .args .area .now) out (front-passes _ _ P) (e .1 .0) (sym (e .0) ∙ c .before .before .before .before .before .before .before .before .before .before .before .before .before .if1 .left)
+    (r .0 ∙ ap (λ (t : Task). answerAt t (length out)) T) (r .1 ∙ ap (λ (t : Task). outputAt t (c .before .before .before .before .before .before .build-weighed .result) out) T)
 
 pub build-in-rows-spec : {M : Type 1} → statement M
 build-in-rows-spec =
     tie.close
-    (tie.spec find-copies-requires (λ c. search needs) (λ c. search needs) returns (λ c. search needs) sub-edges number-requires
-    write-numbered-requires (λ c. search needs) (λ c. search needs) (λ c. search needs) (λ c. c .before .before .write-numbered .ensures))
+    (tie.spec weigh-into-requires (λ c. search needs) (λ c. search needs) (λ c. search needs) returns budget-requires build-weighed-requires (λ c. search needs) (λ c. search needs) (λ c. search needs) (λ c. search needs) (λ c. search needs) (λ c. search needs) returns-2)

@@ -1,35 +1,54 @@
--- `build::build_weighed` meets its contract: the degrees are counted, and the rows are as large as the cells ask.
--- Rests on degrees `fill_degrees`, `build_small`, `build_large`.
-use native.Mathlib.Omega.{arith}
+-- 10 by the edges, else what `write_numbered` answers.
+-- Rests on tables Tables, Answers.
 use borrow.Author.Needs.{needs}
-use lib.ListN.{length-replicate}
-use Rattle.formats.proofs.Accepted.{accepted, blocks}
+use mathlib.Core.Path.{refl, ap, _∙_}
+use native.Mathlib.Omega.{arith}
+use lib.ListN.{length}
+use Rattle.tables.proofs.Tables.{numbers-of}
+use Rattle.graph_row.specs.GraphRow.{taskIn}
+use Rattle.build.specs.Within.{outputAt}
+use Rattle.build.proofs.Answers.{many-edges}
 use Rattle.build.proofs.build_weighed.Statement.{statement}
 use Rattle.build.proofs.build_weighed.Tie as tie
 
-fill-degrees-requires : tie.Need-fill-degrees-requires
-fill-degrees-requires c κs =
-    let p = c .before .before .before .before .pre in
-    (p .0, rw length-replicate (omega (arith, blocks _ (accepted _ (p .0)))))
+find-copies-requires : tie.Need-find-copies-requires
+find-copies-requires c κs = c .before .before .before .before .before .before .before .pre
 
-cell-count-requires : tie.Need-cell-count-requires
-cell-count-requires c κs = let p = c .before .before .before .before .before .before .pre in (p .0, p .1 .0 .0)
+returns : tie.Need-returns
+unfolding outputAt
+returns c =
+    let z = c .before .before .before .before .before .before .before .before .before .before .before .before .before in
+    (many-edges (taskIn (z .args .row .now) (z .args .b)) (length (z .args .out .now)) (omega (arith, c .before .before .before .before .before .find-copies .ensures .1 .0)), refl)
 
-build-small-requires : tie.Need-build-small-requires
-build-small-requires c κs =
-    let k = c .before .before .before in
-    let p = k .before .before .before .before .before .before .before .pre in
-    (p .0, (p .1 .0, (p .1 .1, (k .before .before .fill-degrees .ensures, omega (arith, k .cell-count .ensures .0)))))
+sub-edges : tie.Need-sub-edges
+sub-edges c = omega (arith, c .before .before .before .before .before .find-copies .ensures .1 .0)
 
-build-large-requires : tie.Need-build-large-requires
-build-large-requires c κs =
-    let k = c .before .before .before in
-    let p = k .before .before .before .before .before .before .before .pre in
-    (p .0, (p .1 .0, (p .1 .1, k .before .before .fill-degrees .ensures)))
+blocks-in-requires : tie.Need-blocks-in-requires
+blocks-in-requires c κs = omega (arith, c .before .before .before .before .before .before .before .before .before .before .before .before .before .pre .0 .room)
+
+number-requires : tie.Need-number-requires
+number-requires c κs =
+    let p = c .before .before .before .before .before .before .before .before .before .before .before .before .before .before .before .before .pre in
+    let f = c .before .before .before .before .before .before .before .before .find-copies .ensures in
+    rw (c .before .before .blocks-in .ensures .0)
+    ((p .0 .blocks .1, p .1 .0 .0),
+    (p .1 .1 .0 .room, omega (arith, f .0 .1, p .1 .1 .1 .0 .1), omega (arith, f .0 .0, p .1 .1 .1 .0 .0)))
+
+write-numbered-requires : tie.Need-write-numbered-requires
+write-numbered-requires c κs =
+    let z = c .before .before .before .before .before .before .before .before .before .before .before .before .before .before .before .before .before .before .before .before .before .before in
+    let p = z .pre in
+    let f = c .before .before .before .before .before .before .before .before .before .before .before .before .before .before .find-copies .ensures in
+    let n = c .before .before .before .before .before .before .before .before .blocks-in .ensures .0 in
+    let m = f .1 .1 (omega arith) in
+    let k = rw n at (c .before .before .before .before .before .number .ensures) in
+    let N = rw m at (numbers-of (p .1 .1 .0) (k .1 .1)) in
+    (p .0, (p .1 .0, ((omega (arith, f .0 .1, p .1 .1 .1 .0 .1), m), (N, (k .0 ∙ ap length m, (omega (arith, f .1 .0), omega (arith, f .1 .0)))))))
+
+returns-2 : tie.Need-returns-2
+returns-2 c = c .before .before .write-numbered .ensures
 
 pub build-weighed-spec : {M : Type 1} → statement M
 build-weighed-spec =
     tie.close
-    (tie.spec (λ c. search needs) fill-degrees-requires cell-count-requires (λ c. search needs) build-small-requires (λ c. search needs)
-    (λ c. c .before .before .build-small .ensures) (λ c. search needs) build-large-requires (λ c. search needs)
-    (λ c. c .before .before .build-large .ensures))
+    (tie.spec find-copies-requires (λ c. search needs) (λ c. search needs) returns (λ c. search needs) sub-edges blocks-in-requires number-requires write-numbered-requires (λ c. search needs) (λ c. search needs) (λ c. search needs) returns-2)
