@@ -38,3 +38,8 @@ pub record Within (n m k : ℕ) (w : List ℕ) : Type 0 where
   pub blocks : header w .blocks ≤ n
   pub edges : header w .edges ≤ m
   pub cells : cellCount (task w .blocks) (task w .largest) ≤ k
+
+-- a sheet for which middling rows are enough, if it passes
+pub record Little (w : List ℕ) : Type 0 where
+  pub blocks : header w .blocks ≤ 32
+  pub cells : cellCount (task w .blocks) (task w .largest) ≤ 2048

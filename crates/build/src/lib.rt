@@ -18,7 +18,7 @@ ghost use Rattle.tables.specs.Tables.{markedCopies, Numbers};
 ghost use Rattle.tables.specs.Rows.{edgesOf};
 ghost use Rattle.graph_row.specs.GraphRow.{blocksIn, graphIn, taskIn, Flat};
 ghost use Rattle.descend.specs.Marks.{Clear};
-ghost use Rattle.build.specs.Within.{answerAt, outputAt, built, Passes, Within};
+ghost use Rattle.build.specs.Within.{answerAt, outputAt, built, Passes, Within, Little};
 use descend::reach;
 use graph_row::ROW_WORDS;
 use graph_row::blocks_in;
@@ -31,6 +31,7 @@ use tables::cell_count;
 use weigh_sheet::LISTS;
 use weigh_sheet::front;
 use weigh_sheet::weigh_into;
+use words::LEAST_WORDS;
 use words::MOST_BLOCKS;
 use words::MOST_BOUNDED_EDGES;
 use words::MOST_CELLS;
@@ -168,6 +169,8 @@ fn build_in_rows(
     build_weighed(row, area, table, marks, out, b)
 }
 
+// IN LOCAL ROWS, as large as the sheet asks
+
 // The sizes of the rows of a small build, and of a middling one.
 const FEW_BLOCKS: usize = 8;
 
@@ -177,9 +180,9 @@ const FEW_CELLS: usize = 128;
 
 const SOME_BLOCKS: usize = 32;
 
-const SOME_CELLS: usize = 4096;
+const SOME_CELLS: usize = 2048;
 
-// In local rows for a small sheet.
+// For a small sheet.
 fn build_small(s: &[u16], area: &mut [u8], out: &mut [u16]) -> u16
     requires { ⌜ Passes (now s) (now area) ⌝ }
     requires { ⌜ Within 8 32 128 (now s) ⌝ }
@@ -203,10 +206,10 @@ fn build_small(s: &[u16], area: &mut [u8], out: &mut [u16]) -> u16
     )
 }
 
-// In local rows for a middling sheet.
+// For a middling sheet.
 fn build_middling(s: &[u16], area: &mut [u8], out: &mut [u16]) -> u16
     requires { ⌜ Passes (now s) (now area) ⌝ }
-    requires { ⌜ Within 32 512 4096 (now s) ⌝ }
+    requires { ⌜ Within 32 512 2048 (now s) ⌝ }
     ensures { λ a. ⌜ a ≡ built (now (s .entry)) (now (area .entry)) (now (out .entry)) .answer ⌝ }
     ensures { λ _. ⌜ now (area .exit) ≡ built (now (s .entry)) (now (area .entry)) (now (out .entry)) .area ⌝ }
     ensures { λ _. ⌜ now (out .exit) ≡ built (now (s .entry)) (now (area .entry)) (now (out .entry)) .output ⌝ }
@@ -227,7 +230,7 @@ fn build_middling(s: &[u16], area: &mut [u8], out: &mut [u16]) -> u16
     )
 }
 
-// In local rows for any sheet.
+// For any sheet.
 fn build_large(s: &[u16], area: &mut [u8], out: &mut [u16]) -> u16
     requires { ⌜ Passes (now s) (now area) ⌝ }
     ensures { λ a. ⌜ a ≡ built (now (s .entry)) (now (area .entry)) (now (out .entry)) .answer ⌝ }
@@ -250,21 +253,21 @@ fn build_large(s: &[u16], area: &mut [u8], out: &mut [u16]) -> u16
     )
 }
 
-// A build that is not small. Large rows are asked for at two places, which keeps them out of this function's own frame.
-fn build_more(s: &[u16], area: &mut [u8], out: &mut [u16], n: usize, cells: usize) -> u16
-    requires { ⌜ Passes (now s) (now area) ⌝ }
-    requires { ⌜ (n ≡ header (now s) .blocks) × (cells ≡ cellCount (task (now s) .blocks) (task (now s) .largest)) ⌝ }
-    ensures { λ a. ⌜ a ≡ built (now (s .entry)) (now (area .entry)) (now (out .entry)) .answer ⌝ }
-    ensures { λ _. ⌜ now (area .exit) ≡ built (now (s .entry)) (now (area .entry)) (now (out .entry)) .area ⌝ }
-    ensures { λ _. ⌜ now (out .exit) ≡ built (now (s .entry)) (now (area .entry)) (now (out .entry)) .output ⌝ }
+// THE CALL
+
+// Whether a row begins with the header of a sheet for which middling rows are enough.
+pub fn is_little(s: &[u16]) -> bool
+    ensures { λ r. ⌜ (r ≡ true → Little (now (s .entry))) ⌝ }
 {
-    if SOME_BLOCKS < n {
-        return build_large(s, area, out);
+    if s.len() < LEAST_WORDS {
+        return false;
     }
-    if SOME_CELLS < cells {
-        return build_large(s, area, out);
+    let h = read_header(s);
+    if SOME_BLOCKS < h.blocks {
+        return false;
     }
-    build_middling(s, area, out)
+    let b = budget(s);
+    h.blocks * (b + 1) <= SOME_CELLS
 }
 
 // Whether a sheet is small.
@@ -280,9 +283,10 @@ fn is_small(n: usize, m: usize, cells: usize) -> bool
     cells <= FEW_CELLS
 }
 
-// In rows as large as the sheet asks.
+// The build of such a sheet that passes 1 to 8 and 21.
 fn build_passed(s: &[u16], area: &mut [u8], out: &mut [u16]) -> u16
     requires { ⌜ Passes (now s) (now area) ⌝ }
+    requires { ⌜ Little (now s) ⌝ }
     ensures { λ a. ⌜ a ≡ built (now (s .entry)) (now (area .entry)) (now (out .entry)) .answer ⌝ }
     ensures { λ _. ⌜ now (area .exit) ≡ built (now (s .entry)) (now (area .entry)) (now (out .entry)) .area ⌝ }
     ensures { λ _. ⌜ now (out .exit) ≡ built (now (s .entry)) (now (area .entry)) (now (out .entry)) .output ⌝ }
@@ -293,11 +297,12 @@ fn build_passed(s: &[u16], area: &mut [u8], out: &mut [u16]) -> u16
     if is_small(h.blocks, h.edges, cells) {
         return build_small(s, area, out);
     }
-    build_more(s, area, out, h.blocks, cells)
+    build_middling(s, area, out)
 }
 
-// 1 to 8, 21, 9, 10, 22 in this order, else 0 and the bounded sheet in the first words of the output row.
-pub fn build(s: &[u16], area: &mut [u8], out: &mut [u16]) -> u16
+// The build of a sheet for which middling rows are enough.
+pub fn build_little(s: &[u16], area: &mut [u8], out: &mut [u16]) -> u16
+    requires { ⌜ Little (now s) ⌝ }
     ensures { λ r. ⌜ r ≡ built (now (s .entry)) (now (area .entry)) (now (out .entry)) .answer ⌝ }
     ensures { λ _. ⌜ now (area .exit) ≡ built (now (s .entry)) (now (area .entry)) (now (out .entry)) .area ⌝ }
     ensures { λ _. ⌜ now (out .exit) ≡ built (now (s .entry)) (now (area .entry)) (now (out .entry)) .output ⌝ }
@@ -307,4 +312,29 @@ pub fn build(s: &[u16], area: &mut [u8], out: &mut [u16]) -> u16
         return a;
     }
     build_passed(s, area, out)
+}
+
+// 1 to 8, 21, 9, 10, 22 in this order, else 0 and the bounded sheet in the first words of the output row; in rows for any sheet.
+pub fn build_any(s: &[u16], area: &mut [u8], out: &mut [u16]) -> u16
+    ensures { λ r. ⌜ r ≡ built (now (s .entry)) (now (area .entry)) (now (out .entry)) .answer ⌝ }
+    ensures { λ _. ⌜ now (area .exit) ≡ built (now (s .entry)) (now (area .entry)) (now (out .entry)) .area ⌝ }
+    ensures { λ _. ⌜ now (out .exit) ≡ built (now (s .entry)) (now (area .entry)) (now (out .entry)) .output ⌝ }
+{
+    let a = front(s, area);
+    if a != 0 {
+        return a;
+    }
+    build_large(s, area, out)
+}
+
+// The same, in rows as large as the sheet asks.
+pub fn build(s: &[u16], area: &mut [u8], out: &mut [u16]) -> u16
+    ensures { λ r. ⌜ r ≡ built (now (s .entry)) (now (area .entry)) (now (out .entry)) .answer ⌝ }
+    ensures { λ _. ⌜ now (area .exit) ≡ built (now (s .entry)) (now (area .entry)) (now (out .entry)) .area ⌝ }
+    ensures { λ _. ⌜ now (out .exit) ≡ built (now (s .entry)) (now (area .entry)) (now (out .entry)) .output ⌝ }
+{
+    if is_little(s) {
+        return build_little(s, area, out);
+    }
+    build_any(s, area, out)
 }

@@ -1,26 +1,19 @@
--- The front first, then the rest.
--- Rests on calls Weigh, Front.
+-- Little sheets in middling rows, the others in rows for any.
+-- Rests on nothing.
 use borrow.Author.Needs.{needs}
-use mathlib.Core.Path.{sym, _∙_}
-use Rattle.calls.proofs.Weigh.{front-passes}
-use Rattle.build.proofs.Front.{front-refused}
 use Rattle.build.proofs.build.Statement.{statement}
 use Rattle.build.proofs.build.Tie as tie
 
-returns : tie.Need-returns
-returns c =
-    let z = c .before .before .before .before .before .before in
-    front-refused (z .args .s .now) (z .args .area .now) (z .args .out .now) (c .before .front .ensures) (c .if1 .taken)
+build-little-requires : tie.Need-build-little-requires
+build-little-requires c κs = c .before .before .before .is-little .ensures (c .before .before .if1 .taken)
 
-build-passed-requires : tie.Need-build-passed-requires
-build-passed-requires c κs =
-    let p = front-passes _ (sym (c .before .before .before .front .ensures) ∙ c .before .before .if1 .left) in
-    record { ok = p .0; room = p .1 }
+returns : tie.Need-returns
+returns c = c .before .before .before .before .build-little .ensures
 
 returns-2 : tie.Need-returns-2
-returns-2 c = c .before .before .before .before .build-passed .ensures
+returns-2 c = c .before .before .before .before .build-any .ensures
 
 pub build-spec : {M : Type 1} → statement M
 build-spec =
     tie.close
-    (tie.spec (λ c κs. search needs) (λ c. search needs) returns build-passed-requires (λ c. search needs) (λ c. search needs) returns-2)
+    (tie.spec (λ c κs. search needs) build-little-requires (λ c. search needs) (λ c. search needs) returns (λ c κs. search needs) (λ c. search needs) (λ c. search needs) returns-2)

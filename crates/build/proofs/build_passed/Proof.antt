@@ -1,7 +1,7 @@
 -- The header is read for the sizes.
 -- Rests on formats Accepted.
 use borrow.Author.Needs.{needs}
-use mathlib.Core.Path.{_≡_, sym, ap, ap₂, _∙_}
+use mathlib.Core.Path.{_≡_, ap, ap₂, _∙_}
 use mathlib.Core.List.{List}
 use Prim.Native.Nat.{ℕ}
 use native.Mathlib.Omega.{arith}
@@ -12,14 +12,14 @@ use Rattle.build.proofs.build_passed.Statement.{statement}
 use Rattle.build.proofs.build_passed.Tie as tie
 
 read-header-requires : tie.Need-read-header-requires
-read-header-requires c κs = accepted _ (c .before .before .before .pre .ok) .long
+read-header-requires c κs = accepted _ (c .before .before .before .pre .0 .ok) .long
 
 budget-requires : tie.Need-budget-requires
-budget-requires c κs = accepted _ (c .before .before .before .before .pre .ok) .long
+budget-requires c κs = accepted _ (c .before .before .before .before .pre .0 .ok) .long
 
 cell-count-requires : tie.Need-cell-count-requires
 cell-count-requires c κs =
-    let A = accepted _ (c .before .before .before .before .before .pre .ok) in
+    let A = accepted _ (c .before .before .before .before .before .pre .0 .ok) in
     (omega (arith, A .sound .form .blocks, ap (λ (h : Header). h .blocks) (c .before .read-header .ensures .0)), omega (arith, A .budget, c .budget .ensures .0))
 
 -- the cells that were counted
@@ -31,7 +31,7 @@ build-small-requires : tie.Need-build-small-requires
 build-small-requires c κs =
     let r = c .before .before .before .before .before .before .read-header .ensures .0 in
     let k = c .before .before .before .is-small .ensures (c .before .before .if1 .taken) in
-    (c .before .before .before .before .before .before .before .before .before .before .pre, record {
+    (c .before .before .before .before .before .before .before .before .before .before .pre .0, record {
       blocks = omega (arith, k .0, ap (λ (h : Header). h .blocks) r);
       edges = omega (arith, k .1, ap (λ (h : Header). h .edges) r);
       cells = omega (arith, k .2, cells-are (c .before .before .before .before .before .before .before .before .before .before .args .s .now) r (c .before .before .before .before .before .budget .ensures .0) (c .before .before .before .before .cell-count .ensures .0));
@@ -40,15 +40,16 @@ build-small-requires c κs =
 returns : tie.Need-returns
 returns c = c .before .before .before .before .build-small .ensures
 
-build-more-requires : tie.Need-build-more-requires
-build-more-requires c κs =
-    let r = c .before .before .before .before .before .before .read-header .ensures .0 in
-    (c .before .before .before .before .before .before .before .before .before .before .pre, (ap (λ (h : Header). h .blocks) r, cells-are (c .before .before .before .before .before .before .before .before .before .before .args .s .now) r (c .before .before .before .before .before .budget .ensures .0) (c .before .before .before .before .cell-count .ensures .0)))
+build-middling-requires : tie.Need-build-middling-requires
+build-middling-requires c κs =
+    let p = c .before .before .before .before .before .before .before .before .before .before .pre in
+    let A = accepted _ (p .0 .ok) in
+    (p .0, record { blocks = p .1 .blocks; edges = A .sound .form .edges .1; cells = p .1 .cells })
 
 returns-2 : tie.Need-returns-2
-returns-2 c = c .before .before .before .before .build-more .ensures
+returns-2 c = c .before .before .before .before .build-middling .ensures
 
 pub build-passed-spec : {M : Type 1} → statement M
 build-passed-spec =
     tie.close
-    (tie.spec read-header-requires budget-requires cell-count-requires (λ c κs. search needs) build-small-requires (λ c. search needs) (λ c. search needs) returns build-more-requires (λ c. search needs) (λ c. search needs) returns-2)
+    (tie.spec read-header-requires budget-requires cell-count-requires (λ c κs. search needs) build-small-requires (λ c. search needs) (λ c. search needs) returns build-middling-requires (λ c. search needs) (λ c. search needs) returns-2)
