@@ -13,6 +13,7 @@ ghost use Rattle.formats.specs.BoundedSheet.{headingOf};
 ghost use Rattle.formats.specs.Rule11.{badEdgeOrder, badTargetWords, boundedRefusal, Formed};
 ghost use Rattle.bounded_check.specs.Parts.{badForm, badCopy, badRecords};
 ghost use Rattle.bounded_check.specs.Chains.{Consecutive};
+use headers::read_heading;
 use words::LEAST_BOUNDED_EDGES;
 use words::LEAST_COPIES;
 use words::LEAST_WORDS;
@@ -22,7 +23,6 @@ use words::MOST_BUDGET;
 use words::MOST_COPIES;
 use words::field;
 use words::is_outside;
-use headers::read_heading;
 
 // THE HEADER AND THE LENGTH
 
