@@ -79,6 +79,10 @@ clauses s e =
       };
     }
 
+-- behind the header that was read
+pub read-ruled : (s : List ℕ) → boundedRefusal s ≡ 0 → {h : Heading} → h ≡ heading s → Ruled h s
+read-ruled s ok q = subst (λ (h : Heading). Ruled h s) (sym q) (clauses s ok .ruled)
+
 -- copies each of which stands before the next rise
 rising-from : (f : ℕ → Copy) (k n : ℕ) → ((i : ℕ) → n ≤ i → suc i < n + k → before (f i) (f (suc i)) ≡ true) → Rising (map f (from n k))
 unfolding Rising from
