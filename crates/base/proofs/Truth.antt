@@ -73,3 +73,15 @@ module _ {A : Type 0} (f : A → Bool) where
   all-e [] e m = absurd (List·Memᴰ·not-nil m)
   all-e (y ∷ ys) e m =
       let p = and-e (f y) (all f ys) e in ⊎-elim (λ q. ap f q ∙ p .0) (λ k. all-e ys (p .1) k) (List·Memᴰ·cases-cons m)
+
+-- one of two tests is passed
+regroup : (a b c d : Bool) → ((a || b) || (c || d)) ≡ ((a || c) || (b || d))
+regroup true b c d = refl
+regroup false true true d = refl
+regroup false true false d = refl
+regroup false false c d = refl
+
+pub any-or : {A : Type 0} (f g : A → Bool) (xs : List A) → any (λ x. f x || g x) xs ≡ (any f xs || any g xs)
+unfolding any
+any-or f g [] = refl
+any-or f g (x ∷ xs) = ap (λ (b : Bool). (f x || g x) || b) (any-or f g xs) ∙ regroup (f x) (g x) (any f xs) (any g xs)

@@ -3,9 +3,12 @@
 use mathlib.Core.Path.{_≡_, refl, sym, ap, _∙_}
 use mathlib.Core.Bool.{Bool, true, false, _&&_, _||_}
 use mathlib.Core.List.{List, [], _∷_}
-use Prim.Native.Nat.{ℕ, _+_, _≤_, _<_}
+use Prim.Native.Nat.{ℕ, suc, _+_, _≤_, _<_}
 use native.Mathlib.Omega.{arith}
+use native.Mathlib.Decide.{ℕ-discrete}
+use lib.Dec.{eqb}
 use lib.ListN.{length}
+use borrow.Author.Tests.{eq-eqb, ne-eqb}
 use Rattle.base.specs.Lists.{any, keep, from}
 use Rattle.base.proofs.Search.{upto, upto-one, upto-more, upto-end}
 
@@ -20,37 +23,37 @@ any-keep f g (x ∷ xs) = go (g x) refl (any-keep f g xs)
     go true e below = rw (e, keep) (ap (λ (b : Bool). f x || b) below)
     go false e below = rw (e, keep) below
 
--- HOW MANY OF 1 TO n PASS A TEST: the loop is at i, has counted c, and those that it has not passed are to be added
-pub record Count (total : ℕ) (f : ℕ → Bool) (n i c : ℕ) : Type 0 where
-  pub least : 1 ≤ i
-  pub most : i ≤ n + 1
-  pub few : c < i
-  pub rest : total ≡ c + length (keep f (upto i n))
+-- HOW MANY OF 1 TO n ARE OF BLOCK w: the loop is at i, has counted c, and those that it has not passed are to be added
+module _ (block : ℕ → ℕ) (w n : ℕ) where
+  abbrev pub ofBlock : List ℕ → List ℕ
+  ofBlock is = keep (λ i. eqb (block i) w) is
 
-module _ {total : ℕ} {f : ℕ → Bool} where
-  pub count-begins : {m n : ℕ} → n ≡ m → total ≡ length (keep f (from 1 m)) → Count total f n 1 0
-  count-begins {n = n} p e =
-      let q = e ∙ ap (λ (k : ℕ). length (keep f (from 1 k))) (sym p) ∙ ap (λ (l : List ℕ). length (keep f l)) (sym (upto-one n)) in
-      record { least = omega arith; most = omega arith; few = omega arith; rest = omega arith }
+  pub record Count (i c : ℕ) : Type 0 where
+    pub few : c < i
+    pub rest : length (ofBlock (from 1 n)) ≡ c + length (ofBlock (upto i n))
 
-  module _ {n i c : ℕ} (S : Count total f n i c) where
-    step : i ≤ n → total ≡ c + length (keep f (i ∷ upto (i + 1) n))
-    step l = S .rest ∙ ap (λ (l : List ℕ). c + length (keep f l)) (upto-more i n l)
+  pub count-begins : Count 1 0
+  count-begins = record { few = omega arith; rest = omega (arith, ap (λ (is : List ℕ). length (ofBlock is)) (upto-one n)) }
 
-    pub counts : {d : ℕ} → i ≤ n → f i ≡ true → d ≡ c + 1 → Count total f n (i + 1) d
+  module _ {i c : ℕ} (S : Count i c) where
+    -- one more where the copy is of the block
+    pub counts : {v d : ℕ} → i ≤ n → v ≡ block i → (v ≡ w → d ≡ suc c) × ((v ≡ w → ⊥) → d ≡ c) → Count (i + 1) d
     unfolding keep
-    counts l e p =
-        let q : total ≡ c + length (i ∷ keep f (upto (i + 1) n)) = rw (e, keep) at (step l) in
-        record { least = omega arith; most = omega arith; few = omega arith; rest = omega arith }
+    counts {v} {d} l q t = go (ℕ-discrete v w)
+      where
+        step : length (ofBlock (from 1 n)) ≡ c + length (ofBlock (i ∷ upto (i + 1) n))
+        step = S .rest ∙ ap (λ (is : List ℕ). c + length (ofBlock is)) (upto-more i n l)
 
-    pub passes : {d : ℕ} → i ≤ n → f i ≡ false → d ≡ c → Count total f n (i + 1) d
-    unfolding keep
-    passes l e p =
-        let q : total ≡ c + length (keep f (upto (i + 1) n)) = rw (e, keep) at (step l) in
-        record { least = omega arith; most = omega arith; few = omega arith; rest = omega arith }
+        go : Dec (v ≡ w) → Count (i + 1) d
+        go (yes e) =
+            let p : length (ofBlock (from 1 n)) ≡ c + length (i ∷ ofBlock (upto (i + 1) n)) = rw (eq-eqb (block i) w (sym q ∙ e), keep) at step in
+            record { few = omega (arith, t .0 e, S .few); rest = omega (arith, t .0 e) }
+        go (no e) =
+            let p : length (ofBlock (from 1 n)) ≡ c + length (ofBlock (upto (i + 1) n)) = rw (ne-eqb (block i) w (λ z. e (q ∙ z)), keep) at step in
+            record { few = omega (arith, t .1 e, S .few); rest = omega (arith, t .1 e) }
 
-    pub all-counted : n < i → c ≡ total
+    pub all-counted : n < i → length (ofBlock (from 1 n)) ≡ c
     unfolding keep
     all-counted l =
-        let q = S .rest ∙ ap (λ (l : List ℕ). c + length (keep f l)) (upto-end i n l) in
+        let q = S .rest ∙ ap (λ (is : List ℕ). c + length (ofBlock is)) (upto-end i n l) in
         omega arith

@@ -3,16 +3,17 @@
 ghost use mathlib.Core.Path.{_≡_};
 ghost use mathlib.Core.Bool.{_&&_, _||_, not};
 ghost use Prim.Native.Nat.{suc, _+_, _*_, _≤_};
-ghost use lib.Dec.{eqb, ltb};
+ghost use lib.Dec.{eqb};
 ghost use lib.ListN.{length};
 ghost use Rattle.base.specs.Copy.{copyOf, before};
 ghost use Rattle.base.specs.Checks.{outside};
-ghost use Rattle.formats.specs.Limits.{mostBlocks, leastCopies, mostCopies, leastBoundedEdges, mostBoundedEdges};
+ghost use Rattle.formats.specs.Limits.{leastCopies, mostCopies, leastBoundedEdges, mostBoundedEdges};
 ghost use Rattle.formats.specs.Words.{nextFrom};
 ghost use Rattle.formats.specs.BoundedSheet.{headingOf};
-ghost use Rattle.formats.specs.Rule11.{badEdgeOrder, badTargetWords, boundedRefusal, Formed};
+ghost use Rattle.formats.specs.Rule11.{badTargetWords, boundedRefusal, Formed};
 ghost use Rattle.bounded_check.specs.Parts.{badForm, badCopy, badRecords};
 ghost use Rattle.bounded_check.specs.Chains.{Consecutive};
+use headers::read_heading;
 use words::LEAST_BOUNDED_EDGES;
 use words::LEAST_COPIES;
 use words::LEAST_WORDS;
@@ -22,7 +23,6 @@ use words::MOST_BUDGET;
 use words::MOST_COPIES;
 use words::field;
 use words::is_outside;
-use headers::read_heading;
 
 // THE HEADER AND THE LENGTH
 

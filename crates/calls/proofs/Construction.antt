@@ -6,7 +6,6 @@ use mathlib.Core.List.{List, [], _∷_, map, List·Memᴰ}
 use mathlib.Core.Option.{Option, some, none, Option·map}
 use Prim.Native.Nat.{ℕ, suc, _+_, _-_, _<_}
 use native.Mathlib.Omega.{arith}
-use borrow.Author.Tests.{eqb-true, not-false}
 use lib.ListN.{length, length-map}
 use Rattle.base.specs.Lists.{any, chosen}
 use Rattle.base.specs.Copy.{Copy, copyOf, isIn, numberFrom}
@@ -17,9 +16,8 @@ use Rattle.theory.specs.Copies.{targets, copyFor, add, join, startCopies, targe
 use Rattle.theory.specs.Setting.{Setting, copies}
 use Rattle.theory.proofs.Completions.{low-some, is-low, no-low, exit-cost, covers, serves}
 use Rattle.theory.proofs.Reach.{target-mem, edge-target, targets-in, reached-in, in-reached, copy-sound}
-use Rattle.formats.specs.GraphSheet.{budgetIn, header}
+use Rattle.formats.specs.GraphSheet.{budgetIn}
 use Rattle.formats.specs.BoundedSheet.{sheetWords, heading, boundedLength, copyAt, targetsAt}
-use Rattle.formats.specs.Rule11.{wrongLength}
 use Rattle.formats.proofs.Reading.{laid, Reads, reads}
 use Rattle.formats.proofs.RuleRead.{clauses}
 use Rattle.calls.specs.SheetGraph.{graph, rowOf, rowsOf, sheetCopies, boundedSheet}
@@ -164,8 +162,7 @@ module _ (w : List ℕ) (K : Buildable w) where
   budget-is = refl
 
   size-is : length t ≡ boundedLength (heading t)
-  unfolding wrongLength
-  size-is = eqb-true (length t) _ (not-false _ (clauses t (keeps-rule w K) .records .size))
+  size-is = clauses t (keeps-rule w K) .ruled .form .size
 
   pub demand2 : Demand2 w (boundedSheet w)
   demand2 =

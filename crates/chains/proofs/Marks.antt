@@ -11,24 +11,13 @@ use lib.ListN.{length, getD, set, length-set, replicate, length-replicate}
 use lib.Seq.{getD-set-same, getD-set-other}
 use borrow.Author.Tests.{eq-eqb, ne-eqb, ltb-false}
 use Rattle.base.specs.Lists.{any, all, from, member, distinct}
-use Rattle.base.proofs.Truth.{none-any}
+use Rattle.base.proofs.Truth.{any-or, none-any}
 use Rattle.formats.specs.Words.{unsound}
 use Rattle.base.specs.Cells.{isSet}
 use Rattle.base.proofs.Search.{not-all}
 use Rattle.chains.specs.Marks.{missed, unsoundFrom}
 
 -- TESTS JOINED BY OR, in another order
-
-regroup : (a b c d : Bool) → ((a || b) || (c || d)) ≡ ((a || c) || (b || d))
-regroup true b c d = refl
-regroup false true true d = refl
-regroup false true false d = refl
-regroup false false c d = refl
-
-any-or : {A : Type 0} (f g : A → Bool) (xs : List A) → any (λ x. f x || g x) xs ≡ (any f xs || any g xs)
-unfolding any
-any-or f g [] = refl
-any-or f g (x ∷ xs) = ap (λ (b : Bool). (f x || g x) || b) (any-or f g xs) ∙ regroup (f x) (g x) (any f xs) (any g xs)
 
 eqb-turn : (a b : ℕ) → eqb a b ≡ eqb b a
 eqb-turn a b = go (ℕ-discrete a b)

@@ -4,7 +4,7 @@ pub mod Chains
 pub mod Accepted
 -- a written bounded sheet reads back: reads, part-reads, met
 pub mod Reading
--- rule 11, clause by clause, is that a sheet is written from rows that fit: fits-rule; rule11
+-- rule 11, clause by clause, is that a sheet is written from rows that fit: fits-rule; rule11; what it gives behind any header: clauses, chain-inside
 pub mod RuleKept
 pub mod RuleWords
 pub mod RuleRead

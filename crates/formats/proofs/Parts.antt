@@ -1,33 +1,32 @@
 -- The part of a sheet that is handed out for a copy holds its edge records, and is empty where it has none.
--- Rests on base Orders, Reading, RuleRead.
-use mathlib.Core.Path.{_≡_, sym, ap, subst}
+-- Rests on base Orders, Reading, RuleKept, RuleWords, RuleRead.
+use mathlib.Core.Path.{_≡_, ap}
 use mathlib.Core.List.{List}
-use Prim.Native.Nat.{ℕ, _≤_}
+use Prim.Native.Nat.{ℕ, _+_, _-_, _*_, _≤_}
 use native.Mathlib.Omega.{arith}
+use lib.ListN.{length, take, drop}
 use Rattle.base.proofs.Lists.{chosen-some}
 use Rattle.base.specs.Checks.{refused}
-use Rattle.formats.specs.BoundedSheet.{Row, edgeRecords, sheetWords, heading, firstAt, targetsAt, partStart, edgePart}
-use Rattle.formats.specs.Rule11.{boundedOrder, boundedRefusal, CopyIn, partOrder, handOut}
+use Rattle.formats.specs.BoundedSheet.{Heading, heading, edgeRecords, edgesAt, firstAt, chainAt, targetsAt, partStart, edgePart}
+use Rattle.formats.specs.Rule11.{boundedOrder, boundedRefusal, Ruled, CopyIn, partOrder, handOut}
 use Rattle.base.proofs.Orders.{passed, none-left, over-i, not-outside}
-use Rattle.formats.proofs.Reading.{laid, part-reads}
+use Rattle.formats.proofs.Reading.{part-reads}
 use Rattle.formats.proofs.RuleKept.{bounded-numbered}
-use Rattle.formats.proofs.RuleRead.{rule11}
+use Rattle.formats.proofs.RuleWords.{rows}
+use Rattle.formats.proofs.RuleRead.{clauses, rows-length, laid-out}
+
+-- behind any header the edge records of a copy stand together, from its first edge on
+pub records-stand : (h : Heading) (s : List ℕ) → Ruled h s → (i : ℕ) → 1 ≤ i → i ≤ h .copies
+    → take (2 * length (chainAt h s i)) (drop (edgesAt h + 2 * (firstAt h s i - 1)) s) ≡ edgeRecords (firstAt h s i) (targetsAt h s i)
+records-stand h s C i p l =
+    let r = chosen-some (rows h s) i p (omega (arith, rows-length h s C)) in
+    part-reads h s (rows h s) (laid-out h s C) i (r .0) (r .1)
 
 -- on a sheet that keeps rule 11
 pub part-of : (t : List ℕ) → boundedRefusal t ≡ 0 → (i : ℕ) → 1 ≤ i → i ≤ heading t .copies
     → edgePart t i ≡ edgeRecords (firstAt (heading t) t i) (targetsAt (heading t) t i)
 unfolding edgePart
-part-of t ok i p l =
-    let W = rule11 t .0 ok in
-    subst (λ (s : List ℕ). i ≤ heading s .copies → edgePart s i ≡ edgeRecords (firstAt (heading s) s i) (targetsAt (heading s) s i))
-    (sym (W .words)) (written (W .budget) (W .rows)) l
-  where
-    written : (b : ℕ) (rs : List Row) → i ≤ heading (sheetWords b rs) .copies
-        → edgePart (sheetWords b rs) i
-        ≡ edgeRecords (firstAt (heading (sheetWords b rs)) (sheetWords b rs) i) (targetsAt (heading (sheetWords b rs)) (sheetWords b rs) i)
-    written b rs l =
-        let r = chosen-some rs i p (omega (arith, laid b rs .copies)) in
-        part-reads (heading (sheetWords b rs)) (sheetWords b rs) rs (laid b rs) i (r .0) (r .1)
+part-of t ok i p l = records-stand (heading t) t (clauses t ok .ruled) i p l
 
 pub handed-out : (t : List ℕ) → boundedRefusal t ≡ 0 → (i : ℕ) → 1 ≤ i → i ≤ heading t .copies
     → handOut t i

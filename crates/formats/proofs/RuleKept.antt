@@ -5,7 +5,7 @@ use mathlib.Core.Logic.{_≢_}
 use mathlib.Core.Bool.{true, false, _&&_, not}
 use mathlib.Core.List.{List, [], _∷_, _++_, map, List·Memᴰ, Memᴰ·map, List·Memᴰ·eq-of-singleton}
 use mathlib.Core.Option.{some, Option·map}
-use Prim.Native.Nat.{ℕ, suc, _+_, _-_, _*_, _≤_}
+use Prim.Native.Nat.{ℕ, suc, _+_, _-_, _≤_}
 use native.Mathlib.Omega.{arith}
 use native.Mathlib.Decide.{ℕ-discrete}
 use borrow.Author.Tests.{eq-eqb, ne-eqb, eqb-true, le-ltb}
@@ -18,10 +18,10 @@ use Rattle.base.proofs.Lists.{each-e, from-i, from-e, chosen-map, chosen-some, 
 use Rattle.base.proofs.Copies.{Rising, rising-chosen}
 use Rattle.base.specs.Checks.{outside}
 use Rattle.formats.specs.Limits.{mostBlocks, mostBudget, leastCopies, mostCopies, leastBoundedEdges, mostBoundedEdges}
-use Rattle.formats.specs.BoundedSheet.{Row, firstEdge, copyWords, edgeWords, edgeCount, sheetWords, Heading, heading}
+use Rattle.formats.specs.BoundedSheet.{Row, firstEdge, copyWords, edgeWords, edgeCount, sheetWords, Heading, heading, boundedLength}
 use Rattle.formats.specs.BoundedSheet.{blockAt, lowAt, firstAt, targetAt, copyAt, chainAt, targetsAt}
 use Rattle.formats.specs.Rule11.{tooShort, badLimits, wrongLength, largeBudget, badBlocks, badLows, badCopyOrder, copiesOf}
-use Rattle.formats.specs.Rule11.{notOneOf, badExit, badEdgeOrder, badTargetWords, boundedOrder, boundedRefusal}
+use Rattle.formats.specs.Rule11.{notOneOf, badExit, badEdgeOrder, badTargetWords, boundedOrder, boundedRefusal, Formed, Ruled}
 use Rattle.base.proofs.Orders.{Numbered, passed, none-left, not-outside}
 use Rattle.formats.proofs.Reading.{Laid, laid, Reads, reads, met, copyWords-length, edgeWords-length}
 
@@ -54,17 +54,6 @@ pub record Fits (b : ℕ) (rs : List Row) : Type 0 where
   pub one : Once 1 rs
   pub rows : RowsFit b rs
 
--- the clauses that go by the records
-pub record RecordClauses (h : Heading) (s : List ℕ) : Type 0 where
-  pub size : wrongLength h s ≡ false
-  pub blocks : badBlocks h s ≡ false
-  pub lows : badLows h s ≡ false
-  pub order : badCopyOrder h s ≡ false
-  pub two : notOneOf h s 2 ≡ false
-  pub exit : badExit h s ≡ false
-  pub edges : badEdgeOrder h s ≡ false
-  pub targets : badTargetWords h s ≡ false
-
 equal-refl : (xs : List ℕ) → equal xs xs ≡ true
 unfolding equal
 equal-refl [] = refl
@@ -84,11 +73,9 @@ module _ (h : Heading) (s : List ℕ) (rs : List Row) (L : Laid h s rs) (F : Row
       let r = chosen-some rs i (l .0) (omega (arith, L .copies)) in
       record { row = r .0; here = r .1; reading = reads h s rs L i (r .0) (r .1) }
 
-  length-fits : wrongLength h s ≡ false
-  unfolding wrongLength
-  length-fits =
-      let e : length s ≡ h .records + 3 * h .copies + 2 * h .edges
-      = ap length (L .words) ∙ omega (
+  size-fits : length s ≡ boundedLength h
+  size-fits =
+      ap length (L .words) ∙ omega (
         arith,
         length-append (L .front) (copyWords 1 rs ++ edgeWords 1 rs),
         length-append (copyWords 1 rs) (edgeWords 1 rs),
@@ -97,8 +84,7 @@ module _ (h : Heading) (s : List ℕ) (rs : List Row) (L : Laid h s rs) (F : Row
         L .records,
         L .copies,
         L .edges,
-      ) in
-      ap not (eq-eqb (length s) _ e)
+      )
 
   blocks-fit : badBlocks h s ≡ false
   unfolding badBlocks
@@ -169,9 +155,10 @@ module _ (h : Heading) (s : List ℕ) (rs : List Row) (L : Laid h s rs) (F : Row
       go t f (yes e) = rw (eq-eqb t 0 e)
       go t f (no e) = rw (ne-eqb t 0 e) (not-outside 2 (h .copies) t (f e .0) (omega (arith, f e .1, L .copies)))
 
-  pub records-fit : RecordClauses h s
-  records-fit = record {
-    size = length-fits;
+  pub records-fit : (leastCopies ≤ length rs) × (length rs ≤ mostCopies) → (leastBoundedEdges ≤ edgeCount rs) × (edgeCount rs ≤ mostBoundedEdges)
+      → Ruled h s
+  records-fit few edges = record {
+    form = record { copies = omega (arith, few, L .copies); edges = omega (arith, edges, L .edges); size = size-fits };
     blocks = blocks-fit;
     lows = lows-fit;
     order = order-fits;
@@ -181,19 +168,26 @@ module _ (h : Heading) (s : List ℕ) (rs : List Row) (L : Laid h s rs) (F : Row
     targets = targets-fit;
   }
 
+-- a sheet of the length that its header says, within the limits
+pub form-fits : (h : Heading) (s : List ℕ) → Formed h s → (badLimits h s ≡ false) × (wrongLength h s ≡ false)
+unfolding badLimits wrongLength
+form-fits h s F = (
+  rw (not-outside leastCopies mostCopies (h .copies) (F .copies .0) (F .copies .1))
+      (not-outside leastBoundedEdges mostBoundedEdges (h .edges) (F .edges .0) (F .edges .1)),
+  ap not (eq-eqb (length s) (boundedLength h) (F .size)),
+)
+
 -- behind the header
 pub fits-rule : (b : ℕ) (rs : List Row) → Fits b rs → boundedRefusal (sheetWords b rs) ≡ 0
-unfolding boundedRefusal boundedOrder tooShort badLimits largeBudget heading sheetWords
+unfolding boundedRefusal boundedOrder tooShort largeBudget heading sheetWords
 fits-rule b rs F =
     let s = sheetWords b rs in
     let h = heading (sheetWords b rs) in
-    let R = records-fit h s rs (laid b rs) (F .rows) in
-    let limits : badLimits h s ≡ false
-    = rw (not-outside leastCopies mostCopies (length rs) (F .few .0) (F .few .1))
-    (not-outside leastBoundedEdges mostBoundedEdges (edgeCount rs) (F .edges .0) (F .edges .1)) in
+    let R = records-fit h s rs (laid b rs) (F .rows) (F .few) (F .edges) in
+    let form = form-fits h s (R .form) in
     passed 11 tooShort _ s (le-ltb (length s) 3 (omega arith))
-    (passed 11 _ _ s limits
-    (passed 11 _ _ s (R .size)
+    (passed 11 _ _ s (form .0)
+    (passed 11 _ _ s (form .1)
     (passed 11 _ _ s (le-ltb mostBudget b (F .budget))
     (passed 11 _ _ s (R .blocks)
     (passed 11 _ _ s (R .lows)

@@ -1,5 +1,5 @@
 -- A sheet that keeps rule 11 is written from rows that fit; so the rule, clause by clause, is that there are such rows.
--- Rests on base Truth, Copies and Orders, Reading, RuleKept, RuleWords.
+-- Rests on base Truth, Copies and Orders, Chains, Reading, RuleKept, RuleWords.
 use mathlib.Core.Path.{_≡_, refl, sym, ap, ap₂, subst, _∙_}
 use mathlib.Core.Logic.{_≢_, _↔_, ⊎-elim}
 use mathlib.Core.Bool.{Bool, true, false, _&&_, not}
@@ -18,28 +18,38 @@ use Rattle.base.specs.Copy.{Copy, before}
 use Rattle.base.proofs.Truth.{and-e, or-false, any-false}
 use Rattle.base.proofs.Lists.{each-i, keep-i, keep-e, from-i, from-e, from-length, chosen-map, chosen-le, chosen-some}
 use Rattle.base.proofs.Copies.{Rising, before-trans}
-use Rattle.formats.specs.Limits.{mostBlocks, mostBudget, leastCopies, mostCopies, leastBoundedEdges, mostBoundedEdges}
-use Rattle.formats.specs.Words.{follow}
+use Rattle.formats.specs.Limits.{leastWords, mostBlocks, mostBudget, leastCopies, mostCopies, leastBoundedEdges, mostBoundedEdges}
+use Rattle.formats.specs.Words.{follow, Inside}
 use Rattle.base.specs.Checks.{outside}
-use Rattle.formats.specs.BoundedSheet.{Row, copyWords, edgeWords, sheetWords, Heading, heading}
+use Rattle.formats.specs.BoundedSheet.{Row, copyWords, edgeWords, sheetWords, Heading, heading, boundedLength}
 use Rattle.formats.specs.BoundedSheet.{blockAt, lowAt, firstAt, targetAt, nextAt, copyAt, chainAt, targetsAt}
 use Rattle.formats.specs.Rule11.{tooShort, badLimits, wrongLength, largeBudget, badBlocks, badLows, badCopyOrder, copiesOf}
-use Rattle.formats.specs.Rule11.{notOneOf, badExit, badEdgeOrder, badTargetWords, boundedOrder, boundedRefusal}
+use Rattle.formats.specs.Rule11.{notOneOf, badExit, badEdgeOrder, badTargetWords, boundedOrder, boundedRefusal, Formed, Ruled}
 use Rattle.base.proofs.Orders.{unrefused, inside-of}
 use Rattle.formats.proofs.Reading.{Laid, edgePlace}
-use Rattle.formats.proofs.RuleKept.{RowFits, Once, RowsFit, Fits, RecordClauses, fits-rule}
+use Rattle.formats.proofs.RuleKept.{RowFits, Once, RowsFit, Fits, fits-rule}
 use Rattle.formats.proofs.RuleWords.{three-words, rowAt, rows, CopiesWere, copies-were}
 
--- the clauses behind the header
+-- the limits and the length give the form
+pub formed : (h : Heading) (s : List ℕ) → badLimits h s ≡ false → wrongLength h s ≡ false → Formed h s
+unfolding badLimits wrongLength
+formed h s l w =
+    let p = or-false _ _ l in
+    record {
+      copies = inside-of leastCopies mostCopies (h .copies) (p .0);
+      edges = inside-of leastBoundedEdges mostBoundedEdges (h .edges) (p .1);
+      size = eqb-true (length s) (boundedLength h) (not-false _ w);
+    }
+
+-- WHAT THE CLAUSES SAY: a header that is there, a budget within its limit, one copy of block 1, and records that keep the rule
 pub record Clauses (s : List ℕ) : Type 0 where
-  pub long : tooShort s ≡ false
-  pub limits : badLimits (heading s) s ≡ false
-  pub budget : largeBudget (heading s) s ≡ false
+  pub long : leastWords ≤ length s
+  pub budget : heading s .budget ≤ mostBudget
   pub one : notOneOf (heading s) s 1 ≡ false
-  pub records : RecordClauses (heading s) s
+  pub ruled : Ruled (heading s) s
 
 pub clauses : (s : List ℕ) → boundedRefusal s ≡ 0 → Clauses s
-unfolding boundedRefusal boundedOrder
+unfolding boundedRefusal boundedOrder tooShort largeBudget
 clauses s e =
     let a = unrefused 10 _ _ s e in
     let b = unrefused 10 _ _ s (a .1) in
@@ -53,9 +63,25 @@ clauses s e =
     let k = unrefused 10 _ _ s (j .1) in
     let l = unrefused 10 _ _ s (k .1) in
     let m = unrefused 10 _ _ s (l .1) in
-    let R : RecordClauses (heading s) s
-    = record { size = c .0; blocks = f .0; lows = g .0; order = h .0; two = j .0; exit = k .0; edges = l .0; targets = m .0 } in
-    record { long = a .0; limits = b .0; budget = d .0; one = i .0; records = R }
+    record {
+      long = ltb-false (length s) leastWords (a .0);
+      budget = ltb-false mostBudget (heading s .budget) (d .0);
+      one = i .0;
+      ruled = record {
+        form = formed (heading s) s (b .0) (c .0);
+        blocks = f .0;
+        lows = g .0;
+        order = h .0;
+        two = j .0;
+        exit = k .0;
+        edges = l .0;
+        targets = m .0;
+      };
+    }
+
+-- behind the header that was read
+pub read-ruled : (s : List ℕ) → boundedRefusal s ≡ 0 → {h : Heading} → h ≡ heading s → Ruled h s
+read-ruled s ok q = subst (λ (h : Heading). Ruled h s) (sym q) (clauses s ok .ruled)
 
 -- copies each of which stands before the next rise
 rising-from : (f : ℕ → Copy) (k n : ℕ) → ((i : ℕ) → n ≤ i → suc i < n + k → before (f i) (f (suc i)) ≡ true) → Rising (map f (from n k))
@@ -88,14 +114,21 @@ chosen-from zero a i x e = absurd (Option·none-ne-some x e)
 chosen-from (suc k) a zero x e = let p : a ≡ x = Option·some-injective a x e in omega arith
 chosen-from (suc k) a (suc i) x e = let p = chosen-from k (suc a) i x e in omega arith
 
-module _ (h : Heading) (s : List ℕ) (C : RecordClauses h s) where
-  met-is : each (chainAt h s) (from 1 (h .copies)) ≡ from 1 (h .edges)
+module _ (h : Heading) (s : List ℕ) (C : Ruled h s) where
+  -- following the chains meets the edges 1 to F
+  pub met-is : each (chainAt h s) (from 1 (h .copies)) ≡ from 1 (h .edges)
   unfolding badEdgeOrder
   met-is = equal-is _ _ (not-false _ (C .edges))
 
-  size : length s ≡ h .records + 3 * h .copies + 2 * h .edges
-  unfolding wrongLength
-  size = eqb-true (length s) _ (not-false _ (C .size))
+  -- so a chain stays inside
+  pub chain-inside : {i e : ℕ} → 1 ≤ i → i ≤ h .copies → e ≡ firstAt h s i → Inside (nextAt h s) (h .edges) (suc (h .edges)) e
+  unfolding chainAt
+  chain-inside {i} p q f =
+      let m = from-i (h .copies) 1 i p (omega arith) in
+      rw f (record {
+        is-inside = λ x k.
+            omega (arith, from-e (h .edges) 1 x (subst (List·Memᴰ x) met-is (each-i (chainAt h s) (from 1 (h .copies)) m k)));
+      })
 
   pub rows-length : length (rows h s) ≡ h .copies
   unfolding rows
@@ -103,14 +136,14 @@ module _ (h : Heading) (s : List ℕ) (C : RecordClauses h s) where
 
   -- the sheet is written from its rows
   were : CopiesWere h s (h .copies) 1 0 (h .edges)
-  were = copies-were h s (h .copies) 1 0 (h .edges) (omega arith) met-is (omega arith) (omega (arith, size)) (omega (arith, size))
+  were = copies-were h s (h .copies) 1 0 (h .edges) (omega arith) met-is (omega arith) (omega (arith, C .form .size)) (omega (arith, C .form .size))
 
   pub laid-out : Laid h s (rows h s)
   unfolding rows
   laid-out =
       let rs = map (rowAt h s) (from 1 (h .copies)) in
       let a : h .records + 3 * (1 - 1) + 3 * h .copies ≡ edgePlace h s 1 = omega arith in
-      let b : edgePlace h s 1 + 2 * h .edges ≡ length s = omega (arith, size) in
+      let b : edgePlace h s 1 + 2 * h .edges ≡ length s = omega (arith, C .form .size) in
       let c : h .records + 3 * (1 - 1) ≡ h .records = omega arith in
       let z : drop (edgePlace h s 1 + 2 * h .edges) s ≡ [] = rw b (drop-length s) in
       let edges : drop (edgePlace h s 1) s ≡ edgeWords 1 rs
@@ -120,7 +153,7 @@ module _ (h : Heading) (s : List ℕ) (C : RecordClauses h s) where
       record {
         front = take (h .records) s;
         words = sym (take-append-drop (h .records) s) ∙ ap (λ (l : List ℕ). take (h .records) s ++ l) records;
-        records = sym (length-take-le (h .records) s (omega (arith, size)));
+        records = sym (length-take-le (h .records) s (omega (arith, C .form .size)));
         copies = sym rows-length;
         edges = sym (were .number);
       }
@@ -232,29 +265,22 @@ pub record Written (s : List ℕ) : Type 0 where
   pub words : s ≡ sheetWords budget rows
   pub fits : Fits budget rows
 
-pub limits-of : (s : List ℕ) → Clauses s
-    → ((leastCopies ≤ heading s .copies) × (heading s .copies ≤ mostCopies))
-    × ((leastBoundedEdges ≤ heading s .edges) × (heading s .edges ≤ mostBoundedEdges))
-unfolding badLimits
-limits-of s C = let p = or-false _ _ (C .limits) in (inside-of leastCopies mostCopies _ (p .0), inside-of leastBoundedEdges mostBoundedEdges _ (p .1))
-
 written : (s : List ℕ) → Clauses s → Written s
-unfolding heading sheetWords largeBudget tooShort
+unfolding heading sheetWords
 written s C =
     let h = heading s in
-    let R = C .records in
+    let R = C .ruled in
     let L = laid-out h s R in
-    let l = limits-of s C in
     record {
       budget = h .budget;
       rows = rows h s;
-      words = three-words s 0 (ltb-false (length s) 3 (C .long))
+      words = three-words s 0 (C .long)
           ∙ ap₂ (λ x l. x ∷ l) (L .copies) (ap₂ (λ x l. x ∷ h .budget ∷ l) (L .edges)
           (ap (drop 3) (L .words) ∙ drop-at (L .front) (copyWords 1 (rows h s) ++ edgeWords 1 (rows h s)) 3 (sym (L .records))));
       fits = record {
-        few = omega (arith, l, L .copies);
-        edges = omega (arith, l, L .edges);
-        budget = ltb-false mostBudget (h .budget) (C .budget);
+        few = omega (arith, R .form .copies, L .copies);
+        edges = omega (arith, R .form .edges, L .edges);
+        budget = C .budget;
         one = one-of h s R 1 (C .one);
         rows = rows-fit h s R;
       };

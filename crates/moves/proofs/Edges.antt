@@ -110,27 +110,3 @@ module _ (w : List ℕ) (ok : sheetRefusal w ≡ 0) (v : ℕ) (inside : (1 ≤ v
   pub graph-chosen : (k r : ℕ) → optionOf r ≡ chosen (targetsFrom w (3 + 2 * n) (suc m) e) k → optionOf r ≡ chosen (graph w .next v) k
   unfolding header targetWord nextWord chain
   graph-chosen k r h = rw (successors-are w ok v (inside .0) (inside .1)) (rw (p, q, f) at h)
-
--- A BOUNDED SHEET'S CHAIN
-module _ (s : List ℕ) (ok : boundedRefusal s ≡ 0) (i : ℕ) (inside : (1 ≤ i) × (i ≤ heading s .copies)) {n m e : ℕ}
-    (p : n ≡ heading s .copies) (q : m ≡ heading s .edges) (f : e ≡ firstAt (heading s) s i) where
-  -- rule 11's edge order: the chains meet the edges 1 to F
-  edge-met : (x : ℕ) → List·Memᴰ x (chainAt (heading s) s i) → x ≤ heading s .edges
-  edge-met x h =
-      let c = heading s .copies in
-      let g = each-i (chainAt (heading s) s) (from 1 c) (from-i c 1 i (inside .0) (omega (arith, inside .1))) h in
-      let o = met (heading s) s (rows (heading s) s) (laid-out (heading s) s (clauses s ok .records)) in
-      omega (arith, from-e (heading s .edges) 1 x (subst (List·Memᴰ x) o g))
-
-  pub bounded-room : (3 + 3 * n + 2 * m ≤ length s) × (m ≤ mostBoundedEdges)
-  unfolding heading
-  bounded-room = let F = Bounded.formed-of s ok in omega (arith, F .size, F .edges, p, q)
-
-  pub bounded-inside : Inside s (3 + 3 * n) m (suc m) e
-  unfolding Inside heading nextAt chainAt
-  bounded-inside = rw (p, q, f) edge-met
-
-  pub bounded-chosen : (k r : ℕ) → optionOf r ≡ chosen (targetsFrom s (3 + 3 * n) (suc m) e) k
-      → optionOf r ≡ chosen (targetsAt (heading s) s i) k
-  unfolding heading targetAt nextAt chainAt targetsAt
-  bounded-chosen k r h = rw (p, q, f) at h

@@ -29,30 +29,6 @@ use Rattle.look.proofs.Laws.{is-low}
 use Rattle.base.specs.Lists.{optionOf}
 use Rattle.base.proofs.Options.{option-none, option-some}
 
--- A MACHINE, where the k-th target is x - 1, if any
-module _ {S : Type 0} (m : Machine S ℕ) (s : S) (k : ℕ) where
-  pub ended : (m .stands s ≡ going → ⊥) → record { answer = 32; after = s } ≡ reply m s k
-  unfolding reply replyAt
-  ended n = go (m .stands s) n
-    where
-      go : (e : End) → (e ≡ going → ⊥) → record { answer = 32; after = s } ≡ replyAt m e s k
-      go going n = absurd (n refl)
-      go exit n = refl
-      go diverted n = refl
-
-  module _ (g : m .stands s ≡ going) (x : ℕ) (q : optionOf x ≡ chosen (m .targets s) k) where
-    replies : (o : Option ℕ) → chosen (m .targets s) k ≡ o → taken m s o ≡ reply m s k
-    unfolding reply replyAt
-    replies o e = rw (g, e)
-
-    pub unchosen : x ≡ 0 → record { answer = 31; after = s } ≡ reply m s k
-    unfolding taken
-    unchosen z = replies none (option-none x q z)
-
-    pub takes : (x ≡ 0 → ⊥) → (a : S) → a ≡ m .take s (x - 1) → record { answer = 0; after = a } ≡ reply m s k
-    unfolding taken
-    takes n a e = rw e (replies (some (x - 1)) (option-some x q n))
-
 -- THE MONITOR of a sheet's graph, where the k-th target is x - 1, if any, and y is the look-up of it
 module _ (w : List ℕ) (ok : sheetRefusal w ≡ 0) (b : ℕ) (s : Walk) (k : ℕ) {x : ℕ} (q : optionOf x ≡ chosen (graph w .next (s .place)) k)
     (n : x ≡ 0 → ⊥) where
@@ -87,35 +63,6 @@ module _ (w : List ℕ) (ok : sheetRefusal w ≡ 0) (b : ℕ) (s : Walk) (k : �
       unfolding monitorTake
       enters m h p r =
           rw (r, p) (takes-fit true (fits-some (graph w) L b (s .count) (x - 1) (y - 1) h (option-some y l m)))
-
--- THE BOUNDED WALK, where the k-th target is x - 1, if any
-module _ (m : Bounded) (s : Walk) (k : ℕ) (g : s .end ≡ going) {x : ℕ} (q : optionOf x ≡ chosen (m .next (s .place)) k) where
-  pub bounded-diverts : x ≡ 1 → {a : Walk} → a ≡ record { place = s .place; count = s .count + 1; end = diverted }
-      → record { answer = 0; after = a } ≡ reply (boundedWalk m) s k
-  unfolding boundedWalk boundedTake
-  bounded-diverts z r =
-      let p : x - 1 ≡ 0 = omega arith in
-      takes (boundedWalk m) s k g x q (λ e. omega arith) _ (rw (r, p, add-one))
-
-  pub bounded-enters : (x ≡ 0 → ⊥) → (x ≡ 1 → ⊥) → {a : Walk}
-      → a ≡ record { place = x - 1; count = s .count + 1; end = endAt (m .last) (x - 1) }
-      → record { answer = 0; after = a } ≡ reply (boundedWalk m) s k
-  unfolding boundedWalk boundedTake
-  bounded-enters n o r =
-      let p : x - 1 ≡ suc (x - 2) = omega arith in
-      takes (boundedWalk m) s k g x q n _ (rw (r, p, add-one))
-
--- the moves of a walk in shape are few
-most-fits : (b : ℕ) (e : End) → mostMoves b e ≤ suc b
-unfolding mostMoves
-most-fits b going = omega arith
-most-fits b exit = omega arith
-most-fits b diverted = omega arith
-
-pub moves-fit : (t : List ℕ) → boundedRefusal t ≡ 0 → (e : End) (n : ℕ) → n ≤ mostMoves (heading t .budget) e → n ≤ suc mostBudget
-unfolding largeBudget
-moves-fit t ok e n l =
-    omega (arith, most-fits (heading t .budget) e, ltb-false mostBudget (heading t .budget) (clauses t ok .budget))
 
 -- a machine answers 0, 31 or 32, numbers that are not checked before weighing
 pub reply-late : {S : Type 0} (m : Machine S ℕ) (s : S) (k : ℕ) → beforeWeighing (reply m s k .answer) ≡ false

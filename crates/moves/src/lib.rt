@@ -83,18 +83,6 @@ fn target_by(s: &[u16], v: usize, k: usize) -> usize
     nth_target(s, HEADER_WORDS + 2 * n, m, first, k)
 }
 
-// One more than the k-th target of copy i, 0 where there is none; a target of 0 is the exception exit.
-fn bounded_target(t: &[u16], i: usize, k: usize) -> usize
-    requires { ⌜ boundedRefusal (now t) ≡ 0 ⌝ }
-    requires { ⌜ (1 ≤ i) × (i ≤ heading (now t) .copies) ⌝ }
-    ensures { λ r. ⌜ (optionOf r ≡ chosen (targetsAt (heading (now (t .entry))) (now (t .entry)) i) k) × (r ≤ wordLimit) ⌝ }
-{
-    let n = copies(t);
-    let m = bounded_words::edges(t);
-    let first = first_at(t, i);
-    nth_target(t, HEADER_WORDS + 3 * n, m, first, k)
-}
-
 // The monitor's reply to a choice, for a walk in shape: 32 after the end, 31 for no such choice, else 0 and the walk after the edge.
 fn monitor_reply(s: &[u16], area: &[u8], b: usize, w: Walk, choice: usize) -> Moved
     requires { ⌜ sheetRefusal (now s) ≡ 0 ⌝ }
@@ -135,42 +123,6 @@ fn monitor_reply(s: &[u16], area: &[u8], b: usize, w: Walk, choice: usize) -> Mo
     }
 }
 
-// The bounded walk's reply to a choice, for a walk in shape: as the monitor's, but each move counts one, and target 0 diverts.
-fn bounded_reply(t: &[u16], w: Walk, choice: usize) -> Moved
-    requires { ⌜ boundedRefusal (now t) ≡ 0 ⌝ }
-    requires { ⌜ InShape (heading (now t) .copies) 2 (mostMoves (heading (now t) .budget) (endOf (w .end))) (walkOf w) ⌝ }
-    ensures { λ r. ⌜ replyOf r ≡ reply (boundedWalk (readBounded (now (t .entry)))) (walkOf w) choice ⌝ }
-{
-    let end = w.end;
-    if has_ended(end) {
-        return Moved {
-            answer: ENDED,
-            walk: w,
-        };
-    }
-    let i = w.place as usize;
-    let x = bounded_target(t, i, choice);
-    if x == 0 {
-        return Moved {
-            answer: NO_CHOICE,
-            walk: w,
-        };
-    }
-    let moves = w.count + 1;
-    if x == 1 {
-        let after = divert(w, moves);
-        return Moved {
-            answer: 0,
-            walk: after,
-        };
-    }
-    let after = enter(x - 1, moves as usize);
-    Moved {
-        answer: 0,
-        walk: after,
-    }
-}
-
 // A guarded move: the sheet is weighed into the work area, the walk is checked, and the monitor replies.
 pub fn guarded_move(s: &[u16], area: &mut [u8], w: Walk, choice: u16) -> Moved
     ensures { λ r. ⌜ r .answer
@@ -193,26 +145,4 @@ pub fn guarded_move(s: &[u16], area: &mut [u8], w: Walk, choice: u16) -> Moved
         };
     }
     monitor_reply(s, area, b, w, choice as usize)
-}
-
-// A bounded move: the sheet and the walk are checked, and the bounded walk replies.
-pub fn bounded_move(t: &[u16], w: Walk, choice: u16) -> Moved
-    ensures { λ r. ⌜ r .answer ≡ boundedMove (now (t .entry)) (walkOf w) choice .answer ⌝ }
-    ensures { λ r. ⌜ walkOf (r .walk) ≡ boundedMove (now (t .entry)) (walkOf w) choice .after ⌝ }
-{
-    let a = check_bounded(t);
-    if a != 0 {
-        return Moved { answer: a, walk: w };
-    }
-    let n = copies(t);
-    let b = bounded_words::budget(t);
-    let end = w.end;
-    let most = most_moves(b, end);
-    if out_of_shape(n, Walk::EXIT_PLACE, most, w) {
-        return Moved {
-            answer: OUT_OF_SHAPE,
-            walk: w,
-        };
-    }
-    bounded_reply(t, w, choice as usize)
 }

@@ -1,4 +1,4 @@
--- the answer and the words by the order of refusals: sheet-refused, copy-tested, its-words, no-words, accepted
+-- the answer and the words by the order of refusals: sheet-refused, copy-refused, handed
 pub mod Answers
--- a chain of a sheet that keeps rule 11: counted, and inside the sheet
-pub mod Counting
+-- the place of a copy's edge records: no-edges, some-edges
+pub mod Places

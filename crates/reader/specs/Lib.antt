@@ -1,4 +1,4 @@
 -- What the contracts cite beside formats.
--- Rests on nothing.
+-- Rests on formats BoundedSheet.
 -- words that stand in a row: Placed
 pub mod Placed

@@ -1,53 +1,15 @@
 // Public calls: the edge words of one copy of a bounded sheet, handed back as a part of the caller's slice, their place and their answer.
-// Rests on bounded_check, bounded_words; the promises are equations with formats Rule11.
+// Rests on words, headers, chains, bounded_check; the promises are equations with formats Rule11.
 ghost use mathlib.Core.Path.{_≡_};
-ghost use Prim.Native.Nat.{_<_, _≤_};
-ghost use lib.ListN.{length};
-ghost use Rattle.formats.specs.Limits.{wordLimit};
-ghost use Rattle.formats.specs.BoundedSheet.{heading, chainAt, partStart, edgePart};
-ghost use Rattle.formats.specs.Rule11.{boundedRefusal, handOut};
-ghost use Rattle.reader.specs.Placed.{Placed, wordsOn};
+ghost use Prim.Native.Nat.{_≤_};
+ghost use Rattle.formats.specs.BoundedSheet.{headingOf};
+ghost use Rattle.formats.specs.Rule11.{Ruled, handOut};
+ghost use Rattle.reader.specs.Placed.{Placed, PlacedRecords, wordsOn};
 use bounded_check::check_bounded;
-use bounded_words::copies;
-use bounded_words::edges;
-use bounded_words::first_at;
-use bounded_words::next_at;
-use words::HEADER_WORDS;
+use chains::chain_length;
+use headers::read_heading;
+use words::field;
 use words::is_outside;
-
-// 11 where the sheet breaks rule 11, then 33 for a copy outside 1 to C, else 0.
-fn edge_words_answer(s: &[u16], i: u16) -> u16
-    ensures { λ r. ⌜ r ≡ handOut (now (s .entry)) i .answer ⌝ }
-{
-    let a = check_bounded(s);
-    if a != 0 {
-        return a;
-    }
-    let n = copies(s);
-    if is_outside(1, n, i as usize) {
-        return 33;
-    }
-    0
-}
-
-// The number of edges of copy i, counted down its chain, in a sheet that keeps rule 11.
-fn count_edges(s: &[u16], i: usize) -> usize
-    requires { ⌜ boundedRefusal (now s) ≡ 0 ⌝ }
-    requires { ⌜ (1 ≤ i) × (i ≤ heading (now s) .copies) ⌝ }
-    ensures { λ r. ⌜ (r ≡ length (chainAt (heading (now (s .entry))) (now (s .entry)) i)) × (r < wordLimit) ⌝ }
-{
-    let m = edges(s);
-    let mut e = first_at(s, i);
-    let mut count = 0;
-    while count <= m {
-        if e == 0 {
-            return count;
-        }
-        e = next_at(s, e);
-        count += 1;
-    }
-    count
-}
 
 // Where the edge words of a copy stand: the answer, the first word, counted from 0, and the number of words.
 pub struct Place {
@@ -56,44 +18,52 @@ pub struct Place {
     pub size: usize,
 }
 
-// The place of the edge words of copy i, in a sheet that keeps rule 11.
-fn place_of(s: &[u16], i: usize) -> Place
-    requires { ⌜ boundedRefusal (now s) ≡ 0 ⌝ }
-    requires { ⌜ (1 ≤ i) × (i ≤ heading (now s) .copies) ⌝ }
-    ensures { λ r. ⌜ Placed (now (s .entry)) (r .start) (r .size) (partStart (now (s .entry)) i) (edgePart (now (s .entry)) i) ⌝ }
+// The place of the edge records of copy i, behind a header and in records that keep rule 11.
+fn place_of(s: &[u16], at: usize, c: usize, f: usize, b: usize, i: usize) -> Place
+    requires { ⌜ Ruled (headingOf at c f b) (now s) ⌝ }
+    requires { ⌜ (1 ≤ i) × (i ≤ c) ⌝ }
+    ensures { λ r. ⌜ PlacedRecords (headingOf at c f b) (now (s .entry)) i (r .start) (r .size) ⌝ }
     ensures { λ r. ⌜ r .answer ≡ 0 ⌝ }
 {
-    let n = copies(s);
-    let first = first_at(s, i);
+    let base = at + 3 * c;
+    let first = field(s, at, 3, i, 2);
     if first == 0 {
         return Place {
             answer: 0,
-            start: HEADER_WORDS + 3 * n,
+            start: base,
             size: 0,
         };
     }
-    let count = count_edges(s, i);
+    let count = chain_length(s, base, f, first);
     Place {
         answer: 0,
-        start: HEADER_WORDS + 3 * n + 2 * (first - 1),
+        start: base + 2 * (first - 1),
         size: 2 * count,
     }
 }
 
-// The place of the edge words of copy i; empty for the exit and under a refusal.
+// The place of the edge words of copy i; empty for the exit and under a refusal: 11 where the sheet breaks rule 11, 33 for a copy outside 1 to C.
 pub fn edge_words_place(s: &[u16], i: u16) -> Place
     ensures { λ r. ⌜ r .answer ≡ handOut (now (s .entry)) i .answer ⌝ }
     ensures { λ r. ⌜ Placed (now (s .entry)) (r .start) (r .size) (handOut (now (s .entry)) i .start) (handOut (now (s .entry)) i .words) ⌝ }
 {
-    let refusal = edge_words_answer(s, i);
-    if refusal != 0 {
+    let a = check_bounded(s);
+    if a != 0 {
         return Place {
-            answer: refusal,
+            answer: a,
             start: 0,
             size: 0,
         };
     }
-    place_of(s, i as usize)
+    let h = read_heading(s);
+    if is_outside(1, h.copies, i as usize) {
+        return Place {
+            answer: 33,
+            start: 0,
+            size: 0,
+        };
+    }
+    place_of(s, h.records, h.copies, h.edges, h.budget, i as usize)
 }
 
 // The edge records of copy i, a part of the caller's sheet; empty for the exit and under a refusal, which the answer tells apart.

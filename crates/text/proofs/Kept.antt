@@ -1,5 +1,5 @@
 -- What rule 11 gives, number by number: every word of a listing is small, and the chains hold each edge once.
--- Rests on base Truth, Lists and Orders, formats Rule11, Reading and RuleRead.
+-- Rests on base Truth, Lists and Orders, formats Rule11 and RuleRead.
 use mathlib.Core.Path.{_≡_, refl, ap, subst, _∙_}
 use mathlib.Core.Bool.{Bool, true, false, _&&_, not}
 use mathlib.Core.List.{List, List·Memᴰ}
@@ -15,10 +15,8 @@ use Rattle.base.proofs.Lists.{each-i, from-i, from-e, from-length}
 use Rattle.base.proofs.Orders.{inside-of}
 use Rattle.formats.specs.Limits.{mostBlocks, mostBudget, mostCopies, mostBoundedEdges}
 use Rattle.formats.specs.BoundedSheet.{Heading, heading, blockAt, lowAt, targetAt, chainAt}
-use Rattle.formats.specs.Rule11.{largeBudget, badBlocks, badLows, badTargetWords, boundedRefusal}
-use Rattle.formats.proofs.Reading.{met}
-use Rattle.formats.proofs.RuleWords.{rows}
-use Rattle.formats.proofs.RuleRead.{Clauses, clauses, limits-of, laid-out}
+use Rattle.formats.specs.Rule11.{badBlocks, badLows, badTargetWords, boundedRefusal}
+use Rattle.formats.proofs.RuleRead.{Clauses, clauses, met-is}
 
 module _ (s : List ℕ) (ok : boundedRefusal s ≡ 0) where
   abbrev h : Heading
@@ -29,18 +27,17 @@ module _ (s : List ℕ) (ok : boundedRefusal s ≡ 0) where
 
   -- the header
   pub copies-most : h .copies ≤ mostCopies
-  copies-most = limits-of s C .0 .1
+  copies-most = C .ruled .form .copies .1
 
   pub edges-most : h .edges ≤ mostBoundedEdges
-  edges-most = limits-of s C .1 .1
+  edges-most = C .ruled .form .edges .1
 
   pub budget-most : h .budget ≤ mostBudget
-  unfolding largeBudget
-  budget-most = ltb-false mostBudget (h .budget) (C .budget)
+  budget-most = C .budget
 
   -- following the chains meets each edge once
   all-met : each (chainAt h s) (from 1 (h .copies)) ≡ from 1 (h .edges)
-  all-met = met h s (rows h s) (laid-out h s (C .records))
+  all-met = met-is h s (C .ruled)
 
   pub all-edges : length (each (chainAt h s) (from 1 (h .copies))) ≡ h .edges
   all-edges = ap length all-met ∙ from-length (h .edges) 1
@@ -56,7 +53,7 @@ module _ (s : List ℕ) (ok : boundedRefusal s ≡ 0) where
     pub block-inside : (1 ≤ blockAt h s i) × (blockAt h s i ≤ mostBlocks)
     unfolding badBlocks
     block-inside =
-        inside-of 1 mostBlocks (blockAt h s i) (not-this (λ i. outside 1 mostBlocks (blockAt h s i)) (C .records .blocks))
+        inside-of 1 mostBlocks (blockAt h s i) (not-this (λ i. outside 1 mostBlocks (blockAt h s i)) (C .ruled .blocks))
 
     pub block-most : blockAt h s i ≤ mostBlocks
     block-most = block-inside .1
@@ -64,7 +61,7 @@ module _ (s : List ℕ) (ok : boundedRefusal s ≡ 0) where
     pub low-most : lowAt h s i ≤ mostBudget
     unfolding badLows
     low-most =
-        let l = ltb-false (h .budget) (lowAt h s i) (not-this (λ i. ltb (h .budget) (lowAt h s i)) (C .records .lows)) in
+        let l = ltb-false (h .budget) (lowAt h s i) (not-this (λ i. ltb (h .budget) (lowAt h s i)) (C .ruled .lows)) in
         omega (arith, l, budget-most)
 
     -- an edge of a chain is an edge of the sheet
@@ -78,7 +75,7 @@ module _ (s : List ℕ) (ok : boundedRefusal s ≡ 0) where
     pub target-most : (e : ℕ) → List·Memᴰ e (chainAt h s i) → targetAt h s e ≤ mostCopies
     unfolding badTargetWords
     target-most e m =
-        go (eqb (targetAt h s e) 0) refl (any-false stray (from 1 (h .edges)) (C .records .targets) (chain-met e m))
+        go (eqb (targetAt h s e) 0) refl (any-false stray (from 1 (h .edges)) (C .ruled .targets) (chain-met e m))
       where
         stray : ℕ → Bool
         stray e = not (eqb (targetAt h s e) 0) && outside 2 (h .copies) (targetAt h s e)

@@ -1,46 +1,50 @@
 -- The clauses on the header and the length in their order.
 -- Rests on Rule.
-use mathlib.Core.Path.{_≡_, refl, sym, ap, _∙_}
+use borrow.Author.Needs.{needs}
+use mathlib.Core.Path.{_≡_, refl, sym, _∙_}
 use mathlib.Core.Bool.{true, false}
 use mathlib.Core.List.{List}
 use Prim.Native.Nat.{ℕ, _≤_}
 use native.Mathlib.Omega.{arith}
-use lib.Dec.{ltb}
 use lib.ListN.{length}
 use borrow.Author.Tests.{lt-ltb, le-ltb}
-use borrow.Author.Needs.{needs}
-use Rattle.formats.specs.Limits.{mostBudget}
-use Rattle.formats.specs.BoundedSheet.{heading}
-use Rattle.formats.specs.Rule11.{tooShort, largeBudget}
-use Rattle.bounded_check.proofs.Rule.{form-is}
+use Rattle.formats.specs.Limits.{leastWords}
+use Rattle.formats.specs.Rule11.{tooShort}
+use Rattle.bounded_check.proofs.Rule.{form-is, limits-are, length-fits, length-differs, budget-is}
 use Rattle.bounded_check.proofs.bad_form.Statement.{statement}
 use Rattle.bounded_check.proofs.bad_form.Tie as tie
 
-long : (w : List ℕ) → 3 ≤ length w → tooShort w ≡ false
-unfolding tooShort heading
-long w l = le-ltb (length w) 3 l
+long : (w : List ℕ) → leastWords ≤ length w → tooShort w ≡ false
+unfolding tooShort
+long w l = le-ltb (length w) leastWords l
 
 returns : tie.Need-returns
-unfolding tooShort heading
-returns c = let w = c .before .before .args .s .now in sym (form-is w true _ _ _ (lt-ltb (length w) 3 (omega arith)) refl refl refl)
+unfolding tooShort
+returns c =
+    let w = c .before .before .args .s .now in
+    sym (form-is w true _ _ _ (lt-ltb (length w) leastWords (omega arith)) refl refl refl)
 
 returns-2 : tie.Need-returns-2
 returns-2 c =
-    let w = c .before .before .before .before .args .s .now in
-    sym (form-is w false true _ _ (long w (omega arith)) (cc) refl refl)
+    let r = c .before .before .read-heading .ensures .0 in
+    sym (form-is _ false true _ _ (long _ (omega arith)) (limits-are _ r (c .before .bad-limits .ensures) ∙ c .if2 .taken) refl refl)
 
 returns-3 : tie.Need-returns-3
 returns-3 c =
-    let w = c .before .before .before .before .before .before .args .s .now in
-    sym (form-is w false false true _ (long w (omega arith)) (cc) (cc) refl)
+    let z = c .before .before .before .before in
+    let r = z .before .before .read-heading .ensures .0 in
+    sym (form-is _ false false true _ (long _ (omega arith)) (limits-are _ r (z .before .bad-limits .ensures) ∙ z .if2 .left)
+    (length-differs _ r (c .if3 .taken)) refl)
 
 returns-4 : tie.Need-returns-4
-unfolding largeBudget
 returns-4 c =
-    let w = c .before .before .before .before .before .before .before .args .s .now in
-    ap (ltb mostBudget) (c .budget .ensures .0) ∙ sym (form-is w false false false _ (long w (omega arith)) (cc) (cc) refl)
+    let z = c .before .before .before .before .before in
+    let r = z .before .before .read-heading .ensures .0 in
+    sym (form-is _ false false false _ (long _ (omega arith)) (limits-are _ r (z .before .bad-limits .ensures) ∙ z .if2 .left)
+    (length-fits _ r (c .before .if3 .left)) (budget-is _ r))
 
 pub bad-form-spec : {M : Type 1} → statement M
 bad-form-spec =
     tie.close
-    (tie.spec returns (λ c κs. search needs) returns-2 (λ c κs. search needs) returns-3 (λ c κs. search needs) returns-4)
+    (tie.spec returns (λ c κs. search needs) (λ c κs. search needs) returns-2 (λ c. search needs) (λ c. search needs)
+    (λ c. search needs) (λ c. search needs) returns-3 returns-4)

@@ -1,7 +1,6 @@
 -- The part of the sheet that stands at its place, with the answer.
 -- Rests on `edge_words_place`.
 use mathlib.Core.Path.{ap}
-use Prim.Native.Nat.{ℕ}
 use native.Mathlib.Nat.{add-sub-cancel-left}
 use borrow.Author.Needs.{needs}
 use Rattle.reader.specs.Placed.{wordsOn}

@@ -1,36 +1,39 @@
 -- The records of a chain stand together, from its first edge on.
--- Rests on Counting.
+-- Rests on formats RuleRead, Places.
+use borrow.Author.Needs.{needs}
 use mathlib.Core.Path.{refl}
 use native.Mathlib.Omega.{arith}
-use borrow.Author.Needs.{needs}
-use Rattle.bounded_words.proofs.Formed.{formed-of}
-use Rattle.reader.proofs.Counting.{no-edges, some-edges}
+use Rattle.formats.proofs.RuleRead.{chain-inside}
+use Rattle.reader.proofs.Places.{no-edges, some-edges}
 use Rattle.reader.proofs.place_of.Statement.{statement}
 use Rattle.reader.proofs.place_of.Tie as tie
 
-copies-requires : tie.Need-copies-requires
-copies-requires c κs = formed-of _ (c .before .pre .0) .long
+mul-base : tie.Need-mul-base
+mul-base c = omega (arith, c .before .pre .0 .form .size)
 
-first-at-requires : tie.Need-first-at-requires
-first-at-requires c κs = let z = c .before .before in (formed-of _ (z .pre .0), z .pre .1)
+add-base : tie.Need-add-base
+add-base c = omega (arith, c .before .pre .0 .form .size)
+
+field-requires : tie.Need-field-requires
+field-requires c κs = let z = c .before in (z .pre .1 .0, omega arith, omega (arith, z .pre .0 .form .size))
 
 returns : tie.Need-returns
 returns c =
-    let d = c .before in
-    let z = d .before .before .before in
-    (no-edges _ _ (d .before .copies .ensures .0) (d .first-at .ensures .0) (z .pre .0) (c .if1 .taken), refl)
+    let z = c .before .before .before in
+    (no-edges _ _ (z .pre .0) _ (z .pre .1) (c .before .field .ensures .0) (c .if1 .taken), refl)
+
+chain-length-requires : tie.Need-chain-length-requires
+chain-length-requires c κs =
+    let z = c .before .before .before in
+    (omega (arith, z .pre .0 .form .size), chain-inside _ _ (z .pre .0) (z .pre .1 .0) (z .pre .1 .1) (c .before .field .ensures .0))
 
 returns-2 : tie.Need-returns-2
 returns-2 c =
-    let d = c .before .before in
-    let z = d .before .before .before in (
-      some-edges _ _ (d .before .copies .ensures .0) (d .first-at .ensures .0) (c .count-edges .ensures .0) (z .pre .0) (z .pre .1)
-          (c .before .if1 .left),
-      refl,
-    )
+    let z = c .before .before .before .before in
+    (some-edges _ _ (z .pre .0) _ (z .pre .1) (c .before .before .field .ensures .0) (c .chain-length .ensures .0) (c .before .if1 .left), refl)
 
 pub place-of-spec : {M : Type 1} → statement M
 place-of-spec =
     tie.close
-    (tie.spec copies-requires first-at-requires (λ c. search needs) (λ c. search needs) returns (λ c κs. search needs)
-    (λ c. search needs) (λ c. search needs) (λ c. search needs) (λ c. search needs) (λ c. search needs) (λ c. search needs) returns-2)
+    (tie.spec mul-base add-base field-requires returns chain-length-requires (λ c. search needs) (λ c. search needs) (λ c. search needs)
+    (λ c. search needs) returns-2)

@@ -1,0 +1,41 @@
+-- The reply of a machine to a choice, case by case, and the most moves of a walk in shape.
+-- Rests on base Options, theory Machines and Walks.
+use mathlib.Core.Path.{_≡_, refl}
+use mathlib.Core.Option.{Option, some, none}
+use Prim.Native.Nat.{ℕ, suc, _-_, _≤_}
+use native.Mathlib.Omega.{arith}
+use Rattle.base.specs.Lists.{optionOf, chosen}
+use Rattle.base.proofs.Options.{option-none, option-some}
+use Rattle.theory.specs.Machines.{End, going, exit, diverted, Machine, taken, replyAt, reply}
+use Rattle.theory.specs.Walks.{mostMoves}
+
+-- A MACHINE, where the k-th target is x - 1, if any
+module _ {S : Type 0} (m : Machine S ℕ) (s : S) (k : ℕ) where
+  pub ended : (m .stands s ≡ going → ⊥) → record { answer = 32; after = s } ≡ reply m s k
+  unfolding reply replyAt
+  ended n = go (m .stands s) n
+    where
+      go : (e : End) → (e ≡ going → ⊥) → record { answer = 32; after = s } ≡ replyAt m e s k
+      go going n = absurd (n refl)
+      go exit n = refl
+      go diverted n = refl
+
+  module _ (g : m .stands s ≡ going) (x : ℕ) (q : optionOf x ≡ chosen (m .targets s) k) where
+    replies : (o : Option ℕ) → chosen (m .targets s) k ≡ o → taken m s o ≡ reply m s k
+    unfolding reply replyAt
+    replies o e = rw (g, e)
+
+    pub unchosen : x ≡ 0 → record { answer = 31; after = s } ≡ reply m s k
+    unfolding taken
+    unchosen z = replies none (option-none x q z)
+
+    pub takes : (x ≡ 0 → ⊥) → (a : S) → a ≡ m .take s (x - 1) → record { answer = 0; after = a } ≡ reply m s k
+    unfolding taken
+    takes n a e = rw e (replies (some (x - 1)) (option-some x q n))
+
+-- the moves of a walk in shape are few
+pub most-fits : (b : ℕ) (e : End) → mostMoves b e ≤ suc b
+unfolding mostMoves
+most-fits b going = omega arith
+most-fits b exit = omega arith
+most-fits b diverted = omega arith
