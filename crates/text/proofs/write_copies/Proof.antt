@@ -1,6 +1,7 @@
 -- The copies' lines one by one; each turn writes the next one, and the rest is due.
 -- Rests on Copies.
 use Prim.Native.Nat.{_+_, _-_}
+use native.Mathlib.Omega.{arith}
 use borrow.Author.Needs.{needs}
 use Rattle.text.specs.Texts.{lineAt}
 use Rattle.text.proofs.Copies.{LinesDue, lines-begin, line-room, lines-on, lines-end}
@@ -21,13 +22,13 @@ write-copy-requires c κs =
     let d = c .before in
     let l = d .before .loop in
     let z = d .before .before .before .before in
-    (z .pre .0, ((l .inv .least, d .loop-test .taken), line-room _ _ (l .inv) (d .loop-test .taken)))
+    (z .pre .0, ((l .inv .least, omega arith), line-room _ _ (l .inv) (omega arith)))
 
 loop-again : tie.Need-loop-again Inv-loop μ-loop
 loop-again c =
     let d = c .before .before .before .before in
     let put = c .before .before .write-copy in
-    lines-on _ _ (d .before .loop .inv) (d .loop-test .taken) (put .ensures) (put .kept .1 .0)
+    lines-on _ _ (d .before .loop .inv) (omega (arith, d .loop-test .taken)) (put .ensures) (put .kept .1 .0)
 
 same-length : tie.Need-same-length Inv-loop μ-loop
 same-length c = c .before .loop .inv .due .same
