@@ -1,11 +1,10 @@
 -- What is said of a whole sheet, from its first bytes.
--- Rests on list Files, calls Unused, specs Says.
+-- Rests on front Read, calls Unused, specs Says.
 use mathlib.Core.Path.{_≡_, refl, sym, ap, subst, _∙_}
 use mathlib.Core.Bool.{Bool, true, false}
 use mathlib.Core.List.{List}
 use mathlib.Core.Option.{some, none}
 use Prim.Native.Nat.{ℕ}
-use lib.ListN.{take}
 use Rattle.base.specs.Checks.{refused}
 use Rattle.base.proofs.Truth.{not-both}
 use Rattle.formats.specs.File.{wordsOf}
@@ -13,7 +12,7 @@ use Rattle.formats.specs.Report.{Figures}
 use Rattle.calls.specs.Program.{listingOrder}
 use Rattle.calls.specs.Report.{sheetFigures, figures}
 use Rattle.calls.proofs.Unused.{sheet-refused}
-use Rattle.list.proofs.Files.{front-same}
+use Rattle.front.proofs.Read.{front-same}
 use Rattle.figures.specs.declared.Reported.{Reported}
 use Rattle.figures.specs.Says.{Says, Reports}
 

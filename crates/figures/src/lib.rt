@@ -1,33 +1,32 @@
 // What a report says of one sheet of a catalogue: its figures, its line, and the blocks that no kept path enters.
-// Rests on build, list, unused, report_lines; the promise is an equation with calls Report `figures`.
+// Rests on headers, file_words, build, front, unused, report_lines; the promise is an equation with calls Report `figures`.
 ghost use mathlib.Core.Path.{_≡_};
 ghost use mathlib.Core.Option.{some, none};
 ghost use Prim.Native.Nat.{_≤_, _<_};
 ghost use lib.ListN.{length};
 ghost use Rattle.base.specs.Checks.{refused};
-ghost use Rattle.formats.specs.Limits.{mostBlocks};
+ghost use Rattle.formats.specs.Limits.{mostBlocks, mostCells};
 ghost use Rattle.formats.specs.BoundedSheet.{heading, boundedLength};
 ghost use Rattle.formats.specs.Report.{refusedAs};
 ghost use Rattle.calls.specs.SheetGraph.{boundedSheet};
 ghost use Rattle.calls.specs.Program.{listingOrder};
 ghost use Rattle.calls.specs.Report.{acceptedFigures, figures};
 ghost use Rattle.file_words.specs.Longer.{longerFile};
-ghost use Rattle.list.specs.Rows.{mostCells, mostWords, frontSheet};
+ghost use Rattle.front.specs.Front.{mostWords, frontSheet};
 ghost use Rattle.report_lines.specs.Lines.{numberLimit, lineRoom};
 ghost use Rattle.figures.specs.Says.{Says, Reports, Small};
-use bounded_words::copies;
-use bounded_words::edges;
 use build::build;
+use file_words::LONGER_SHEET;
 use file_words::words_of;
-use words::MOST_CELLS;
-use words::blocks;
-use list::FILE_WORDS;
-use list::MOST_WORDS;
-use list::front_sheet;
+use front::MOST_WORDS;
+use front::front_sheet;
+use headers::read_header;
+use headers::read_heading;
 use report_lines::write_figures;
 use report_lines::write_refused;
 use unused::mark_first;
 use unused::mark_unused;
+use words::MOST_CELLS;
 
 // Of a sheet: N, C and F, 0 where it is refused, and the length of its line.
 pub struct Reported {
@@ -69,16 +68,15 @@ fn report_built(
     requires { ⌜ lineRoom ≤ length (now text) ⌝ }
     ensures { λ r. ⌜ Says (acceptedFigures (now (words .entry))) place r (now (marks .exit)) (now (text .entry)) (now (text .exit)) × Small r ⌝ }
 {
-    let n = blocks(words);
+    let g = read_header(words);
     let t = front_sheet(row);
-    mark_unused(t, n, marks);
-    let c = copies(t);
-    let f = edges(t);
-    let k = write_figures(text, place, n, c, f);
+    mark_unused(t, g.blocks, marks);
+    let h = read_heading(t);
+    let k = write_figures(text, place, g.blocks, h.copies, h.edges);
     Reported {
-        blocks: n,
-        copies: c,
-        edges: f,
+        blocks: g.blocks,
+        copies: h.copies,
+        edges: h.edges,
         size: k,
     }
 }
@@ -145,7 +143,7 @@ pub fn report_item(
     if cut {
         return report_cut(place, marks, text);
     }
-    let mut words = [0u16; FILE_WORDS];
+    let mut words = [0u16; LONGER_SHEET];
     let n = words_of(bytes, &mut words);
     report_sheet(&words[..n], place, marks, text)
 }

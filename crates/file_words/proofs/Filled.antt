@@ -4,8 +4,8 @@ use mathlib.Core.Path.{_≡_, refl, sym, ap, _∙_}
 use mathlib.Core.List.{List, [], _∷_, _++_, map, append-assoc}
 use Prim.Native.Nat.{ℕ, suc, _+_, _*_, _/_, _<_}
 use native.Mathlib.Omega.{arith}
-use lib.ListN.{length, getD, set, drop, length-map}
-use lib.Seq.{drop-cons, set-at}
+use lib.ListN.{length, getD, set, take, drop, length-map}
+use lib.Seq.{drop-cons, set-at, take-at}
 use Rattle.base.specs.Lists.{from}
 use Rattle.base.proofs.Lists.{from-length}
 use Rattle.formats.specs.File.{wordOf, wordsOf}
@@ -59,3 +59,11 @@ module _ (bs : List ℕ) where
   unfolding first wordsOf
   filled-all {old} {n = n} F e q =
       F .words ∙ ap (λ (n : ℕ). first n ++ drop n old) e ∙ ap (λ (m : ℕ). first m ++ drop n old) q
+
+-- THE WORDS OF A FILE, at the front of a row
+pub words-length : (bs : List ℕ) → length (wordsOf bs) ≡ length bs / 2
+unfolding wordsOf first
+words-length bs = first-length bs (length bs / 2)
+
+pub words-first : (bs row rest : List ℕ) (n : ℕ) → row ≡ wordsOf bs ++ rest → n ≡ length bs / 2 → take n row ≡ wordsOf bs
+words-first bs row rest n e q = ap (take n) e ∙ take-at (wordsOf bs) rest n (words-length bs ∙ sym q)

@@ -1,4 +1,4 @@
--- the words, one more at a time: filled-none, filled-more, filled-all
+-- the words, one more at a time: filled-none, filled-more, filled-all; at the front of a row: words-first
 pub mod Filled
 -- a file longer than the longest graph sheet is refused by its first words: long-file
 pub mod LongFile

@@ -12,21 +12,24 @@ use Rattle.base.specs.Lists.{from}
 use Rattle.base.specs.Checks.{outside}
 use Rattle.base.proofs.Truth.{or-false}
 use Rattle.base.proofs.Orders.{inside-of}
-use Rattle.formats.specs.Limits.{leastBlocks, mostBlocks, leastEdges, mostEdges}
+use Rattle.formats.specs.Limits.{leastWords, leastBlocks, mostBlocks, leastEdges, mostEdges}
 use Rattle.formats.specs.Words.{word}
 use Rattle.formats.specs.File.{wordOf, wordsOf}
 use Rattle.formats.specs.GraphSheet.{header, sheetLength, short, badCounts, badLength, sheetOrder, sheetRefusal}
 use Rattle.base.proofs.Orders.{pick, tested}
 use Rattle.file_words.specs.Longer.{longerSheet, longerFile}
-use Rattle.file_words.proofs.Filled.{first, first-length}
+use Rattle.file_words.proofs.Filled.{words-length}
 
 -- ROWS OF WORDS: one that long has the answer 2 or 3, by its counts
 module _ (w : List ℕ) (l : longerSheet ≤ length w) where
   not-short : short w ≡ false
   unfolding short header
-  not-short = le-ltb (length w) 3 (omega arith)
+  not-short = le-ltb (length w) leastWords (omega arith)
 
-  bad-length : badCounts w ≡ false → badLength w ≡ true
+  abbrev counts : Bool
+  counts = badCounts (header w) w
+
+  bad-length : counts ≡ false → badLength (header w) w ≡ true
   unfolding badCounts badLength header
   bad-length e =
       let h = header w in
@@ -35,16 +38,16 @@ module _ (w : List ℕ) (l : longerSheet ≤ length w) where
       let m = inside-of leastEdges mostEdges (h .edges) (p .1) in
       ap not (ne-eqb (length w) (sheetLength h) (λ q. omega arith))
 
-  long-row : sheetRefusal w ≡ pick (badCounts w) 2 3
+  long-row : sheetRefusal w ≡ pick counts 2 3
   unfolding sheetRefusal sheetOrder
-  long-row = go (badCounts w) refl
+  long-row = go counts refl
     where
-      go : (b : Bool) → badCounts w ≡ b → sheetRefusal w ≡ pick b 2 3
-      go true e = tested 1 short _ w not-short (tested 2 badCounts _ w e refl)
-      go false e = tested 1 short _ w not-short (tested 2 badCounts _ w e (tested 3 badLength _ w (bad-length e) refl))
+      go : (b : Bool) → counts ≡ b → sheetRefusal w ≡ pick b 2 3
+      go true e = tested 1 short _ w not-short (tested 2 _ _ w e refl)
+      go false e = tested 1 short _ w not-short (tested 2 _ _ w e (tested 3 _ _ w (bad-length e) refl))
 
 -- the counts are the first two words
-same-counts : (v w : List ℕ) → word v 0 ≡ word w 0 → word v 1 ≡ word w 1 → badCounts v ≡ badCounts w
+same-counts : (v w : List ℕ) → word v 0 ≡ word w 0 → word v 1 ≡ word w 1 → badCounts (header v) v ≡ badCounts (header w) w
 unfolding badCounts header
 same-counts v w p q = rw (p, q)
 
@@ -54,10 +57,6 @@ unfolding from
 word-at f zero a i l = absurd (omega arith)
 word-at f (suc n) a zero l = let p : a + 0 ≡ a = omega arith in rw p
 word-at f (suc n) a (suc i) l = let p : a + suc i ≡ suc a + i = omega arith in rw p (word-at f n (suc a) i (omega arith))
-
-words-length : (bs : List ℕ) → length (wordsOf bs) ≡ length bs / 2
-unfolding wordsOf first
-words-length bs = first-length bs (length bs / 2)
 
 word-is : (bs : List ℕ) (i : ℕ) → i < length bs / 2 → word (wordsOf bs) i ≡ wordOf bs i
 unfolding wordsOf
@@ -80,7 +79,7 @@ module _ (bs : List ℕ) (l : longerFile ≤ length bs) where
       ∙ ap₂ (λ (x y : ℕ). x + 256 * y) (same-byte (2 * i) (omega arith)) (same-byte (2 * i + 1) (omega arith))
       ∙ sym (word-is front i (omega (arith, front-length)))
 
-  long-answer : sheetRefusal (wordsOf bs) ≡ pick (badCounts (wordsOf bs)) 2 3
+  long-answer : sheetRefusal (wordsOf bs) ≡ pick (badCounts (header (wordsOf bs)) (wordsOf bs)) 2 3
   long-answer = long-row (wordsOf bs) (omega (arith, words-length bs))
 
   -- a program that reads no more of a file has the answer of the whole file, and no sheet is accepted
@@ -88,7 +87,7 @@ module _ (bs : List ℕ) (l : longerFile ≤ length bs) where
   long-file =
       let c = same-counts (wordsOf bs) (wordsOf front) (same-word 0 (omega arith)) (same-word 1 (omega arith)) in
       let f = long-row (wordsOf front) (omega (arith, words-length front, front-length)) in
-      (long-answer ∙ ap (λ (b : Bool). pick b 2 3) c ∙ sym f, λ z. above-zero (badCounts (wordsOf bs)) (sym long-answer ∙ z))
+      (long-answer ∙ ap (λ (b : Bool). pick b 2 3) c ∙ sym f, λ z. above-zero (badCounts (header (wordsOf bs)) (wordsOf bs)) (sym long-answer ∙ z))
     where
       above-zero : (b : Bool) → pick b 2 3 ≡ 0 → ⊥
       above-zero true e = let q : _≡_ {A = ℕ} 2 0 = e in omega arith

@@ -1,16 +1,19 @@
 // A file's bytes as words: "In a file each word is two bytes, lower byte first".
-// Rests on formats File.
+// Rests on words; the definitions are formats File.
 ghost use mathlib.Core.Path.{_≡_};
 ghost use mathlib.Core.List.{_++_};
 ghost use Prim.Native.Nat.{_+_, _*_, _/_, _≤_};
 ghost use lib.ListN.{length, drop};
 ghost use Rattle.formats.specs.File.{wordsOf};
-use words::HEADER_WORDS;
+use words::LEAST_WORDS;
 use words::MOST_BLOCKS;
 use words::MOST_EDGES;
 
-// The bytes of one word more than the longest graph sheet has: a longer file is answered by as many of its bytes (proofs LongFile).
-pub const LONGER_FILE: usize = 2 * (HEADER_WORDS + 2 * MOST_BLOCKS + 2 * MOST_EDGES + 1);
+// One word more than the longest graph sheet has: a longer file is answered by as many of its words (proofs LongFile).
+pub const LONGER_SHEET: usize = LEAST_WORDS + 2 * MOST_BLOCKS + 2 * MOST_EDGES + 1;
+
+// The same in bytes.
+pub const LONGER_FILE: usize = 2 * LONGER_SHEET;
 
 // A word from its two bytes.
 pub fn joined(lower: u8, higher: u8) -> u16

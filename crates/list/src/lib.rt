@@ -1,47 +1,28 @@
 // The listing of a file, on slices: below the program, which reads the file and writes the text.
-// Rests on file_words, build, text; the text is calls Program `listing` of the whole file (proofs Files).
+// Rests on file_words, build, front, text; the text is calls Program `listing` of the whole file (proofs Files).
 ghost use mathlib.Core.Path.{_≡_};
 ghost use Prim.Native.Nat.{_≤_};
 ghost use lib.ListN.{length};
+ghost use Rattle.formats.specs.Limits.{mostCells};
 ghost use Rattle.formats.specs.BoundedSheet.{heading, boundedLength};
 ghost use Rattle.formats.specs.Rule11.{boundedRefusal};
 ghost use Rattle.formats.specs.Listing.{listingOf};
 ghost use Rattle.calls.specs.Program.{sheetListing};
 ghost use Rattle.file_words.specs.Longer.{longerFile};
+ghost use Rattle.front.specs.Front.{mostWords, frontSheet};
 ghost use Rattle.digits.specs.Wrote.{Wrote};
 ghost use Rattle.text.specs.Texts.{listingRoom};
-ghost use Rattle.list.specs.Rows.{mostCells, mostWords, frontSheet};
 ghost use Rattle.list.specs.Whole.{listingFrom};
-use bounded_words::MOST_BOUNDED_EDGES;
-use bounded_words::MOST_COPIES;
-use bounded_words::copies;
-use bounded_words::edges;
 use build::build;
-use file_words::LONGER_FILE;
+use file_words::LONGER_SHEET;
 use file_words::words_of;
-use words::HEADER_WORDS;
-use words::MOST_CELLS;
+use front::MOST_WORDS;
+use front::front_sheet;
 use text::write_listing;
 use text::write_refusal;
+use words::MOST_CELLS;
 
-// The words of as many bytes as are read of a file.
-pub const FILE_WORDS: usize = LONGER_FILE / 2;
-
-// The most words of a bounded sheet: no build in such a row, and with the most cells of a work area, answers 21 or 22.
-pub const MOST_WORDS: usize = HEADER_WORDS + 3 * MOST_COPIES + 2 * MOST_BOUNDED_EDGES;
-
-// The bounded sheet with which a row begins, as long as its header says.
-pub fn front_sheet(row: &[u16]) -> &[u16]
-    requires { ⌜ boundedLength (heading (now row)) ≤ length (now row) ⌝ }
-    ensures { λ r. ⌜ now r ≡ frontSheet (now (row .entry)) ⌝ }
-{
-    let c = copies(row);
-    let f = edges(row);
-    let size = HEADER_WORDS + 3 * c + 2 * f;
-    &row[..size]
-}
-
-// Its listing.
+// The listing of the bounded sheet with which a row begins.
 fn list_built(row: &[u16], text: &mut [u8]) -> usize
     requires { ⌜ boundedLength (heading (now row)) ≤ length (now row) ⌝ }
     requires { ⌜ boundedRefusal (frontSheet (now row)) ≡ 0 ⌝ }
@@ -84,7 +65,7 @@ pub fn list_file(bytes: &[u8], odd: bool, text: &mut [u8]) -> usize
     if odd {
         return write_refusal(1, text);
     }
-    let mut words = [0u16; FILE_WORDS];
+    let mut words = [0u16; LONGER_SHEET];
     let n = words_of(bytes, &mut words);
     list_words(&words[..n], text)
 }

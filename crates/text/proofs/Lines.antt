@@ -1,71 +1,80 @@
--- The lines of the texts, part by part as they are written.
--- Rests on formats Listing, digits Spaced and NumberLine, specs Texts.
-use mathlib.Core.Path.{_≡_, refl, ap, _∙_}
+-- The lines of the texts, part by part as they are written, and the listing by them.
+-- Rests on base Lists, formats Listing, digits Spaced and NumberLine, specs Texts.
+use mathlib.Core.Path.{_≡_, refl, sym, ap, ap₂, _∙_}
 use mathlib.Core.List.{List, [], _∷_, _++_}
-use Prim.Native.Nat.{ℕ, _+_}
+use Prim.Native.Nat.{ℕ, suc, _+_, _*_}
 use native.Mathlib.Omega.{arith}
 use lib.ListN.{length, length-append}
-use Rattle.formats.specs.BoundedSheet.{heading, blockAt, lowAt, targetsAt}
-use Rattle.formats.specs.Listing.{decimal, line, headingLine, copyLine, refusalOf}
+use Rattle.base.specs.Lists.{each, from}
+use Rattle.formats.specs.Words.{field, targetsFrom}
+use Rattle.formats.specs.BoundedSheet.{Heading, heading, blockAt, lowAt, chainAt, targetsAt}
+use Rattle.formats.specs.Listing.{decimal, line, headingLine, copyLine, listingOf, refusalOf}
 use Rattle.digits.specs.Spaced.{spaced}
 use Rattle.digits.proofs.NumberLine.{newlineText, numbers-line}
-use Rattle.text.specs.Texts.{targetsText}
+use Rattle.text.specs.Texts.{copiesText, edgesText, budgetText, headingText, copyText, lineAt, copyLines}
 
--- `copies`, ` edges`, ` budget`, `refused`
-abbrev pub copiesText : List ℕ
-copiesText = 99 ∷ 111 ∷ 112 ∷ 105 ∷ 101 ∷ 115 ∷ []
-
-abbrev pub edgesText : List ℕ
-edgesText = 32 ∷ 101 ∷ 100 ∷ 103 ∷ 101 ∷ 115 ∷ []
-
-abbrev pub budgetText : List ℕ
-budgetText = 32 ∷ 98 ∷ 117 ∷ 100 ∷ 103 ∷ 101 ∷ 116 ∷ []
-
+-- `refused`
 abbrev pub refusedText : List ℕ
 refusedText = 114 ∷ 101 ∷ 102 ∷ 117 ∷ 115 ∷ 101 ∷ 100 ∷ []
 
-pub heading-is : (s : List ℕ) {c f b : ℕ} → c ≡ heading s .copies → f ≡ heading s .edges → b ≡ heading s .budget
-    → headingLine s ≡ (copiesText ++ spaced c) ++ ((edgesText ++ spaced f) ++ ((budgetText ++ spaced b) ++ newlineText))
-unfolding headingLine line spaced
-heading-is s p q r = rw (p, q, r)
-
-pub heading-length : (s : List ℕ) {c f b : ℕ} → c ≡ heading s .copies → f ≡ heading s .edges → b ≡ heading s .budget
-    → length (headingLine s) ≡ length (copiesText ++ spaced c) + (length (edgesText ++ spaced f) + (length (budgetText ++ spaced b) + 1))
-heading-length s {c} {f} {b} p q r =
+pub heading-length : (c f b : ℕ)
+    → length (headingText c f b) ≡ length (copiesText ++ spaced c) + (length (edgesText ++ spaced f) + (length (budgetText ++ spaced b) + 1))
+unfolding headingText
+heading-length c f b =
     let x = copiesText ++ spaced c in
     let y = edgesText ++ spaced f in
     let z = budgetText ++ spaced b in
     omega (
       arith,
-      ap length (heading-is s p q r),
       length-append x (y ++ (z ++ newlineText)),
       length-append y (z ++ newlineText),
       length-append z newlineText,
     )
 
-pub copy-is : (s : List ℕ) (i : ℕ) {b l : ℕ} → b ≡ blockAt (heading s) s i → l ≡ lowAt (heading s) s i
-    → copyLine s i ≡ decimal i ++ (spaced b ++ (spaced l ++ (targetsText s i ++ newlineText)))
-unfolding copyLine line spaced
-copy-is s i {b} {l} p q =
-    rw (p, q) (ap (λ (w : List ℕ). decimal i ++ (32 ∷ (decimal (blockAt (heading s) s i) ++ (32 ∷ w))))
-    (numbers-line (decimal (lowAt (heading s) s i)) (targetsAt (heading s) s i)))
-
-pub copy-length : (s : List ℕ) (i : ℕ) {b l : ℕ} → b ≡ blockAt (heading s) s i → l ≡ lowAt (heading s) s i
-    → length (copyLine s i)
-    ≡ length (decimal i) + (length (spaced b) + (length (spaced l) + (length (targetsText s i) + 1)))
-copy-length s i {b} {l} p q =
-    let x = spaced b in
+pub copy-length : (i v l : ℕ) (ts : List ℕ)
+    → length (copyText i v l ts) ≡ length (decimal i) + (length (spaced v) + (length (spaced l) + (length (each spaced ts) + 1)))
+unfolding copyText
+copy-length i v l ts =
+    let x = spaced v in
     let y = spaced l in
-    let z = targetsText s i in
+    let z = each spaced ts in
     omega (
       arith,
-      ap length (copy-is s i p q),
       length-append (decimal i) (x ++ (y ++ (z ++ newlineText))),
       length-append x (y ++ (z ++ newlineText)),
       length-append y (z ++ newlineText),
       length-append z newlineText,
     )
 
+-- a copy's line, by the numbers that were read
+pub line-read : (s : List ℕ) (at c f i : ℕ) {v l x : ℕ} → v ≡ field s at 3 i 0 → l ≡ field s at 3 i 1 → x ≡ field s at 3 i 2
+    → copyText i v l (targetsFrom s (at + 3 * c) (suc f) x) ≡ lineAt s at c f i
+line-read s at c f i p q r = rw (p, q, r)
+
+-- THE LISTING
+module _ (s : List ℕ) where
+  abbrev h : Heading
+  h = heading s
+
+  heading-is : headingLine s ≡ headingText (h .copies) (h .edges) (h .budget)
+  unfolding headingLine line headingText spaced
+  heading-is = refl
+
+  copy-is : (i : ℕ) → copyLine s i ≡ lineAt s (h .records) (h .copies) (h .edges) i
+  unfolding copyLine line copyText spaced targetsAt chainAt
+  copy-is i =
+      ap (λ (w : List ℕ). decimal i ++ (32 ∷ (decimal (blockAt h s i) ++ (32 ∷ w))))
+      (numbers-line (decimal (lowAt h s i)) (targetsAt h s i))
+
+  -- by what its header was read as
+  pub listing-is : {g : Heading} → g ≡ h
+      → listingOf s ≡ headingText (g .copies) (g .edges) (g .budget) ++ copyLines s (g .records) (g .copies) (g .edges)
+  unfolding listingOf
+  listing-is q =
+      ap₂ (λ (x : List ℕ) (l : ℕ → List ℕ). x ++ each l (from 1 (h .copies))) heading-is (λ k i. copy-is i k)
+      ∙ ap (λ (g : Heading). headingText (g .copies) (g .edges) (g .budget) ++ copyLines s (g .records) (g .copies) (g .edges)) (sym q)
+
+-- A REFUSAL
 pub refusal-is : (n : ℕ) → refusalOf n ≡ (refusedText ++ spaced n) ++ newlineText
 unfolding refusalOf line spaced
 refusal-is n = refl

@@ -1,6 +1,6 @@
 -- How long the texts are at most: a heading 34 bytes, a copy's line 13 and 5 for each target, a refusal 14.
 -- Rests on base Lists, formats Listing, digits Spaced, Decimals and Room, specs Texts, Lines, Kept.
-use mathlib.Core.Path.{_≡_, refl}
+use mathlib.Core.Path.{refl}
 use mathlib.Core.List.{List, [], _∷_, List·Memᴰ, List·Memᴰ·head, List·Memᴰ·tail, Memᴰ·of-map}
 use Prim.Native.Nat.{ℕ, _+_, _*_, _≤_, _<_}
 use native.Mathlib.Omega.{arith}
@@ -8,15 +8,15 @@ use lib.ListN.{length, length-append, length-map}
 use Rattle.base.specs.Lists.{each, from}
 use Rattle.base.proofs.Lists.{from-e, from-length}
 use Rattle.formats.specs.Limits.{mostCopies}
-use Rattle.formats.specs.BoundedSheet.{Heading, heading, blockAt, lowAt, targetAt, chainAt, targetsAt}
-use Rattle.formats.specs.Rule11.{boundedRefusal}
-use Rattle.formats.specs.Listing.{headingLine, copyLine, listingOf, refusalOf}
+use Rattle.formats.specs.BoundedSheet.{Heading, blockAt, lowAt, targetAt, chainAt, targetsAt}
+use Rattle.formats.specs.Rule11.{Ruled}
+use Rattle.formats.specs.Listing.{refusalOf}
 use Rattle.digits.specs.Spaced.{spaced}
-use Rattle.text.specs.Texts.{listingRoom, refusalRoom, copyLines}
+use Rattle.text.specs.Texts.{listingRoom, refusalRoom, copiesText, edgesText, budgetText, headingText, lineAt, copyLines}
 use Rattle.digits.proofs.Decimals.{digits-4}
 use Rattle.digits.proofs.Room.{spaced-3, spaced-4, spaced-5, each-room}
-use Rattle.text.proofs.Lines.{copiesText, edgesText, budgetText, refusedText, heading-length, copy-length, refusal-length}
-use Rattle.text.proofs.Kept.{copies-most, edges-most, budget-most, all-edges, block-most, low-most, target-most}
+use Rattle.text.proofs.Lines.{refusedText, heading-length, copy-length, refusal-length}
+use Rattle.text.proofs.Kept.{Kept, all-edges, block-inside, low-most, target-most}
 
 targets-room : (ts : List ℕ) → ((t : ℕ) → List·Memᴰ t ts → t ≤ mostCopies) → length (each spaced ts) ≤ 5 * length ts
 targets-room ts f = each-room spaced 5 ts (λ t m. spaced-4 t (omega (arith, f t m)))
@@ -40,42 +40,37 @@ pub refusal-fits : (n : ℕ) → n < 100000 → length (refusalOf n) ≤ refusal
 refusal-fits n l =
     omega (arith, refusal-length n, length-append refusedText (spaced n), spaced-5 n l)
 
-pub listing-length : (s : List ℕ) → length (listingOf s) ≡ length (headingLine s) + length (copyLines s)
-unfolding listingOf
-listing-length s = length-append (headingLine s) (copyLines s)
+module _ (h : Heading) (s : List ℕ) (K : Kept h s) where
+  R : Ruled h s
+  R = K .ruled
 
-module _ (s : List ℕ) (ok : boundedRefusal s ≡ 0) where
-  abbrev h : Heading
-  h = heading s
-
-  heading-room : length (headingLine s) ≤ 34
+  heading-room : length (headingText (h .copies) (h .edges) (h .budget)) ≤ 34
   heading-room =
-      let c = copies-most s ok in
-      let f = edges-most s ok in
-      let b = budget-most s ok in
+      let c = R .form .copies .1 in
+      let f = R .form .edges .1 in
       omega (
         arith,
-        heading-length s refl refl refl,
+        heading-length (h .copies) (h .edges) (h .budget),
         length-append copiesText (spaced (h .copies)),
         length-append edgesText (spaced (h .edges)),
         length-append budgetText (spaced (h .budget)),
         spaced-4 (h .copies) (omega arith),
         spaced-4 (h .edges) (omega arith),
-        spaced-3 (h .budget) (omega arith),
+        spaced-3 (h .budget) (omega (arith, K .budget)),
       )
 
-  copy-room : (i : ℕ) → 1 ≤ i → i ≤ h .copies → length (copyLine s i) ≤ 13 + 5 * length (chainAt h s i)
-  unfolding targetsAt
+  copy-room : (i : ℕ) → 1 ≤ i → i ≤ h .copies → length (lineAt s (h .records) (h .copies) (h .edges) i) ≤ 13 + 5 * length (chainAt h s i)
+  unfolding targetsAt chainAt
   copy-room i p q =
-      let c = copies-most s ok in
-      let v = block-most s ok i p q in
-      let a = low-most s ok i p q in
+      let c = R .form .copies .1 in
+      let v = block-inside h s R i p q .1 in
+      let a = low-most h s R i p q in
       omega (
         arith,
-        copy-length s i refl refl,
+        copy-length i (blockAt h s i) (lowAt h s i) (targetsAt h s i),
         digits-4 i (omega arith),
         spaced-3 (blockAt h s i) (omega arith),
-        spaced-3 (lowAt h s i) (omega arith),
+        spaced-3 (lowAt h s i) (omega (arith, K .budget)),
         targets-room (targetsAt h s i) small,
         length-map (chainAt h s i) (targetAt h s),
       )
@@ -83,13 +78,15 @@ module _ (s : List ℕ) (ok : boundedRefusal s ≡ 0) where
       small : (t : ℕ) → List·Memᴰ t (targetsAt h s i) → t ≤ mostCopies
       small t m =
           let e = Memᴰ·of-map (targetAt h s) (chainAt h s i) m in
-          omega (arith, target-most s ok i p q (e .0) (e .1), e .2)
+          omega (arith, target-most h s R i p q (e .0) (e .1), e .2)
 
-  pub listing-fits : length (listingOf s) ≤ listingRoom
+  -- the heading and the copies' lines together
+  pub listing-fits : length (headingText (h .copies) (h .edges) (h .budget)) + length (copyLines s (h .records) (h .copies) (h .edges))
+      ≤ listingRoom
   listing-fits =
       let is = from 1 (h .copies) in
-      let c = copies-most s ok in
-      let f = edges-most s ok in
-      let r = lines-room (copyLine s) (chainAt h s) is
+      let c = R .form .copies .1 in
+      let f = R .form .edges .1 in
+      let r = lines-room (lineAt s (h .records) (h .copies) (h .edges)) (chainAt h s) is
       (λ i m. let b = from-e (h .copies) 1 i m in copy-room i (b .0) (omega arith)) in
-      omega (arith, listing-length s, heading-room, r, from-length (h .copies) 1, all-edges s ok)
+      omega (arith, heading-room, r, from-length (h .copies) 1, all-edges h s R)

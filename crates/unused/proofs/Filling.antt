@@ -1,6 +1,6 @@
 -- The marks of the blocks 1 to i are written; one turn writes the next.
 -- Rests on formats Limits, specs Marks, Writes.
-use mathlib.Core.Path.{_≡_, refl, sym, ap, _∙_}
+use mathlib.Core.Path.{_≡_, sym, ap, _∙_}
 use mathlib.Core.Bool.{not}
 use mathlib.Core.List.{List}
 use Prim.Native.Nat.{ℕ, suc, _+_, _≤_, _<_}

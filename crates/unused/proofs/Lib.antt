@@ -4,5 +4,5 @@ pub mod Writes
 pub mod Filling
 -- the loop over the copies: Unmarking
 pub mod Unmarking
--- the marked blocks are the unused ones, or none: names-unused, names-none
+-- the marked blocks are the unused ones, or none: names-unused, names-none; the copies' blocks: blocks-kept, blocks-read
 pub mod Named

@@ -1,16 +1,18 @@
 -- Of the blocks 1 to n, those that kept their marks are the unused ones.
--- Rests on base Lists, formats Limits and Report, specs Marks.
-use mathlib.Core.Path.{_≡_, refl, ap, ap₂, _∙_}
+-- Rests on base Lists, formats Limits, BoundedSheet, Rule11 and Report, text Kept, specs Marks.
+use mathlib.Core.Path.{_≡_, refl, ap, subst, _∙_}
 use mathlib.Core.Bool.{Bool, true, false, _&&_, not}
 use mathlib.Core.List.{List, [], _∷_}
 use Prim.Native.Nat.{ℕ, zero, suc, _+_, _≤_, _<_}
 use native.Mathlib.Omega.{arith}
 use borrow.Author.Tests.{le-leb, lt-leb}
-use lib.Dec.{leb}
 use Rattle.base.specs.Lists.{keep, from, member}
 use Rattle.formats.specs.Limits.{mostBlocks}
+use Rattle.formats.specs.BoundedSheet.{Heading, heading}
+use Rattle.formats.specs.Rule11.{Ruled}
 use Rattle.formats.specs.Report.{copyBlocks, unusedBlocks}
-use Rattle.unused.specs.Marks.{marked, markedBlocks, First, Unmarked}
+use Rattle.text.proofs.Kept.{block-inside}
+use Rattle.unused.specs.Marks.{marked, markedBlocks, First, Unmarked, blocksAt, Blocks}
 
 -- a test that fails from a + n on keeps what another keeps of the n numbers before
 keep-front : (f g : ℕ → Bool) (n m a : ℕ) → n ≤ m → ((v : ℕ) → a ≤ v → v < a + n → g v ≡ f v)
@@ -46,6 +48,16 @@ module _ (n : ℕ) (t : List ℕ) {old new : List ℕ} (F : First n old) (U : Un
   pub names-unused : n ≤ mostBlocks → markedBlocks new ≡ unusedBlocks n t
   unfolding markedBlocks unusedBlocks
   names-unused l = keep-front free (marked new) n mostBlocks 1 l (λ v p q. inside v p q l) outside
+
+-- THE COPIES' BLOCKS, by what the header was read as
+
+-- rule 11 gives blocks that have marks
+pub blocks-kept : (h : Heading) (t : List ℕ) → Ruled h t → Blocks t (h .records) (h .copies)
+blocks-kept h t R = record { size = omega (arith, R .form .size); inside = block-inside h t R }
+
+pub blocks-read : (t : List ℕ) {old new : List ℕ} {g : Heading} → g ≡ heading t → Unmarked (blocksAt t (g .records) (g .copies)) old new
+    → Unmarked (copyBlocks t) old new
+blocks-read t {old} {new} q U = subst (λ (h : Heading). Unmarked (blocksAt t (h .records) (h .copies)) old new) q U
 
 -- where no block is marked, none is named
 pub names-none : {ms : List ℕ} → First 0 ms → markedBlocks ms ≡ []

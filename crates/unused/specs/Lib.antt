@@ -1,2 +1,2 @@
--- rows of marks: marked, markedBlocks, First, Unmarked
+-- rows of marks: marked, markedBlocks, First, Unmarked; the blocks of copies: blocksAt, Blocks
 pub mod Marks

@@ -1,5 +1,5 @@
 // The blocks that no copy of a bounded sheet has, as a row of marks.
-// Rests on bounded_words; the promise is an equation with formats Report `unusedBlocks`.
+// Rests on words, headers; the promise is an equation with formats Report `unusedBlocks`.
 ghost use mathlib.Core.Path.{_≡_};
 ghost use mathlib.Core.Bool.{not};
 ghost use Prim.Native.Nat.{suc, _≤_, _<_};
@@ -7,11 +7,11 @@ ghost use lib.Dec.{eqb, leb};
 ghost use lib.ListN.{length};
 ghost use Rattle.formats.specs.Limits.{mostBlocks};
 ghost use Rattle.formats.specs.Rule11.{boundedRefusal};
-ghost use Rattle.formats.specs.Report.{copyBlocks, unusedBlocks};
-ghost use Rattle.unused.specs.Marks.{markedBlocks, First, Unmarked};
-use bounded_words::block_at;
-use bounded_words::copies;
+ghost use Rattle.formats.specs.Report.{unusedBlocks};
+ghost use Rattle.unused.specs.Marks.{markedBlocks, First, Unmarked, blocksAt, Blocks};
+use headers::read_heading;
 use words::MOST_BLOCKS;
+use words::field;
 
 // The mark of block i + 1 among the blocks 1 to n.
 fn first_mark(i: usize, n: usize) -> u8
@@ -36,16 +36,15 @@ pub fn mark_first(marks: &mut [u8], n: usize)
     }
 }
 
-// Takes the mark from the block of each copy.
-fn unmark_copies(t: &[u16], marks: &mut [u8])
-    requires { ⌜ boundedRefusal (now t) ≡ 0 ⌝ }
+// Takes the mark from the block of each of c copies, whose records stand from the word `at` on.
+fn unmark_copies(t: &[u16], marks: &mut [u8], at: usize, c: usize)
+    requires { ⌜ Blocks (now t) at c ⌝ }
     requires { ⌜ length (now marks) ≡ mostBlocks ⌝ }
-    ensures { λ _. ⌜ Unmarked (copyBlocks (now (t .entry))) (now (marks .entry)) (now (marks .exit)) ⌝ }
+    ensures { λ _. ⌜ Unmarked (blocksAt (now (t .entry)) at c) (now (marks .entry)) (now (marks .exit)) ⌝ }
 {
-    let n = copies(t);
     let mut i = 1;
-    while i <= n {
-        let v = block_at(t, i);
+    while i <= c {
+        let v = field(t, at, 3, i, 0);
         marks[v - 1] = 0;
         i += 1;
     }
@@ -58,6 +57,7 @@ pub fn mark_unused(t: &[u16], n: usize, marks: &mut [u8])
     requires { ⌜ length (now marks) ≡ mostBlocks ⌝ }
     ensures { λ _. ⌜ markedBlocks (now (marks .exit)) ≡ unusedBlocks n (now (t .entry)) ⌝ }
 {
+    let h = read_heading(t);
     mark_first(marks, n);
-    unmark_copies(t, marks);
+    unmark_copies(t, marks, h.records, h.copies);
 }

@@ -1,12 +1,13 @@
 -- A cut sheet is refused with 3, of any other the words are reported.
--- Rests on file_words `words_of`, list Files, Whole.
+-- Rests on file_words `words_of`, Longer and Filled, Whole.
 use mathlib.Core.Path.{sym}
 use Prim.Native.Nat.{_/_, _≤_}
 use native.Mathlib.Omega.{arith}
 use borrow.Author.Needs.{needs}
 use lib.ListN.{length, length-replicate}
 use lib.Seq.{length-take-le}
-use Rattle.list.proofs.Files.{words-first}
+use Rattle.file_words.specs.Longer.{longerSheet}
+use Rattle.file_words.proofs.Filled.{words-first}
 use Rattle.figures.proofs.Whole.{reports-cut, reports-whole}
 use Rattle.figures.proofs.report_item.Statement.{statement}
 use Rattle.figures.proofs.report_item.Tie as tie
@@ -21,7 +22,7 @@ returns c =
 words-of-requires : tie.Need-words-of-requires
 words-of-requires c κs =
     let z = c .before .before .before .before .before in
-    let half : length (z .args .bytes .now) / 2 ≤ 1284 = omega (arith, z .pre .0) in
+    let half : length (z .args .bytes .now) / 2 ≤ longerSheet = omega (arith, z .pre .0) in
     rw length-replicate half
 
 returns-2 : tie.Need-returns-2

@@ -1,5 +1,5 @@
 -- `list::list_built` meets its contract.
--- Rests on `front_sheet`, text `write_listing`, digits Due.
+-- Rests on front `front_sheet`, text `write_listing`, digits Due.
 use mathlib.Core.Path.{ap, _∙_}
 use borrow.Author.Needs.{needs}
 use Rattle.formats.specs.Rule11.{boundedRefusal}

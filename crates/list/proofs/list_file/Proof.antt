@@ -1,5 +1,5 @@
 -- `list::list_file` meets its contract: an odd file is refused with 1, of any other the words are listed.
--- Rests on file_words `words_of`, digits Due, Files.
+-- Rests on file_words `words_of`, Longer and Filled, digits Due, Files.
 use mathlib.Core.Path.{sym, ap, _∙_}
 use Prim.Native.Nat.{_/_, _≤_}
 use native.Mathlib.Omega.{arith}
@@ -8,7 +8,9 @@ use lib.ListN.{length, length-replicate}
 use lib.Seq.{length-take-le}
 use Rattle.calls.specs.Program.{sheetListing}
 use Rattle.digits.proofs.Due.{wrote-as}
-use Rattle.list.proofs.Files.{words-first, odd-listed, even-listed}
+use Rattle.file_words.specs.Longer.{longerSheet}
+use Rattle.file_words.proofs.Filled.{words-first}
+use Rattle.list.proofs.Files.{odd-listed, even-listed}
 use Rattle.list.proofs.list_file.Statement.{statement}
 use Rattle.list.proofs.list_file.Tie as tie
 
@@ -21,7 +23,7 @@ returns c =
 words-of-requires : tie.Need-words-of-requires
 words-of-requires c κs =
     let z = c .before .before .before .before in
-    let half : length (z .args .bytes .now) / 2 ≤ 1284 = omega arith in
+    let half : length (z .args .bytes .now) / 2 ≤ longerSheet = omega arith in
     rw length-replicate half
 
 returns-2 : tie.Need-returns-2

@@ -1,10 +1,10 @@
 -- `list::list_in_rows` meets its contract: what the build refuses is refused, and what it leaves in the row is listed.
--- Rests on build `build`, digits Due, Answer, Files.
+-- Rests on build `build`, front Answer, digits Due, Files.
 use mathlib.Core.Path.{sym, ap, _∙_}
 use borrow.Author.Needs.{needs}
 use Rattle.formats.specs.Listing.{listingOf}
 use Rattle.digits.proofs.Due.{wrote-as}
-use Rattle.list.proofs.Answer.{list-answer, front-is, front-fits, front-kept}
+use Rattle.front.proofs.Answer.{list-answer, front-is, front-fits, front-kept}
 use Rattle.list.proofs.Files.{sheet-refused, sheet-listed}
 use Rattle.list.proofs.list_in_rows.Statement.{statement}
 use Rattle.list.proofs.list_in_rows.Tie as tie

@@ -1,8 +1,8 @@
 -- A build in rows that are long enough: its answer is never 21 or 22, and under 0 the output row begins with the bounded sheet.
--- Rests on base Orders, formats Accepted, calls Weigh, Built, Area and Demand, build Answers and Passed, specs Rows.
+-- Rests on base Orders, formats Reading and Accepted, calls Weigh, Built, Area and Demand, tables Places, specs Front.
 use mathlib.Core.Path.{_≡_, refl, sym, ap, _∙_}
 use mathlib.Core.Bool.{Bool, true, false}
-use mathlib.Core.List.{List, [], _∷_}
+use mathlib.Core.List.{List, [], _∷_, _++_}
 use Prim.Native.Nat.{ℕ, _≤_}
 use native.Mathlib.Omega.{arith}
 use native.Mathlib.Decide.{ℕ-discrete}
@@ -12,36 +12,61 @@ use lib.ListN.{length, take, drop, length-append}
 use Rattle.base.specs.Checks.{Order, refused, lentAfter}
 use Rattle.base.proofs.Truth.{or-false}
 use Rattle.base.proofs.Orders.{pick, tested, none-left, append-stops, append-passes, over-stops, over-passes}
-use Rattle.formats.specs.Limits.{mostCopies, mostBoundedEdges}
+use Rattle.formats.specs.Limits.{leastWords, mostCopies, mostBoundedEdges, mostCells}
 use Rattle.formats.specs.GraphSheet.{budgetIn, header, sheetOrder, sheetRefusal}
-use Rattle.formats.specs.BoundedSheet.{sheetWords, heading, boundedLength}
+use Rattle.formats.specs.BoundedSheet.{Row, copyWords, edgeWords, sheetWords, heading, boundedLength}
 use Rattle.formats.specs.Rule11.{boundedRefusal}
-use Rattle.formats.proofs.Accepted.{accepted, budget-fits, graph-numbered}
+use Rattle.formats.proofs.Accepted.{accepted, graph-numbered}
+use Rattle.formats.proofs.Reading.{copyWords-length, edgeWords-length, Laid, laid}
 use Rattle.theory.specs.Tasks.{copiesIn}
-use Rattle.calls.specs.SheetGraph.{task, graph, rowsOf, boundedSheet}
-use Rattle.calls.specs.Weigh.{Weighing, taskArea, smallArea, nothingFits, weighOrder}
+use Rattle.calls.specs.SheetGraph.{task, rowsOf, boundedSheet}
+use Rattle.calls.specs.Area.{areaSize}
+use Rattle.calls.specs.Weigh.{Weighing, taskArea, nothingFits, areaOrder, fitOrder, frontOrder, weighOrder}
 use Rattle.calls.specs.Build.{Lent, tooMany, smallOutput, buildOrder, outputAfter, build}
 use Rattle.calls.specs.Program.{listingOrder}
-use Rattle.calls.proofs.Weigh.{weigh-numbered}
+use Rattle.calls.proofs.Weigh.{front-numbered, weigh-numbered, front-is as area-passes}
 use Rattle.calls.proofs.Built.{keeps-rule}
 use Rattle.calls.proofs.Area.{output-words}
 use Rattle.calls.proofs.Demand.{buildable}
-use Rattle.build.proofs.Answers.{sheet-length}
-use Rattle.build.proofs.Passed.{few-cells}
-use Rattle.list.specs.Rows.{mostCells, mostWords, frontSheet}
+use Rattle.tables.proofs.Places.{few-cells, count-code}
+use Rattle.front.specs.Front.{mostWords, frontSheet}
 
--- the length of a bounded sheet by its header
+-- THE LENGTH of a bounded sheet, by its header
 sheet-is : (w : List ℕ) → length (boundedSheet w) ≡ boundedLength (heading (boundedSheet w))
-unfolding boundedSheet heading sheetWords
-sheet-is w = sheet-length (task w .largest) (rowsOf (task w .graph) (copiesIn (task w)))
+unfolding boundedSheet
+sheet-is w =
+    let rs : List Row = rowsOf (task w .graph) (copiesIn (task w)) in
+    let L : Laid (heading (boundedSheet w)) (boundedSheet w) rs = laid (task w .largest) rs in
+    ap length (L .words)
+    ∙ omega (
+      arith,
+      length-append (L .front) (copyWords 1 rs ++ edgeWords 1 rs),
+      length-append (copyWords 1 rs) (edgeWords 1 rs),
+      copyWords-length 1 rs,
+      edgeWords-length 1 rs,
+      L .records,
+      L .copies,
+      L .edges,
+    )
+
+-- the records stand behind as many words as any sheet has
+records-at : (w : List ℕ) → heading w .records ≡ leastWords
+unfolding heading
+records-at w = refl
 
 -- few enough copies and edges fit the row
 words-fit : (w : List ℕ) → tooMany (heading (boundedSheet w)) ≡ false → length (boundedSheet w) ≤ mostWords
-unfolding tooMany heading
+unfolding tooMany
 words-fit w e =
     let h = heading (boundedSheet w) in
     let p = or-false (ltb mostCopies (h .copies)) (ltb mostBoundedEdges (h .edges)) e in
-    omega (arith, sheet-is w, ltb-false mostCopies (h .copies) (p .0), ltb-false mostBoundedEdges (h .edges) (p .1))
+    omega (
+      arith,
+      sheet-is w,
+      records-at (boundedSheet w),
+      ltb-false mostCopies (h .copies) (p .0),
+      ltb-false mostBoundedEdges (h .edges) (p .1),
+    )
 
 module _ (w area out : List ℕ) where
   abbrev lent : Lent
@@ -57,17 +82,21 @@ module _ (w area out : List ℕ) where
   module _ (wide : mostCells ≤ length area) (long : mostWords ≤ length out) where
     -- 1 to 8
     by-sheet : (sheetRefusal w ≡ 0 → ⊥) → refused buildOrder lent ≡ refused listingOrder w
-    unfolding sheetRefusal weighOrder buildOrder listingOrder
+    unfolding sheetRefusal frontOrder weighOrder buildOrder listingOrder
     by-sheet n =
-        let a = over-stops (λ (i : Weighing). i .sheet) sheetOrder _ weighing n in
-        over-stops weighing-of weighOrder _ lent (λ e. n (sym a ∙ e)) ∙ a ∙ sym (append-stops sheetOrder _ w n)
+        let a = over-stops (λ (i : Weighing). i .sheet) sheetOrder areaOrder weighing n in
+        let b = append-stops frontOrder fitOrder weighing (λ e. n (sym a ∙ e)) ∙ a in
+        over-stops weighing-of weighOrder _ lent (λ e. n (sym b ∙ e)) ∙ b ∙ sym (append-stops sheetOrder _ w n)
 
     module _ (ok : sheetRefusal w ≡ 0) where
-      no-21 : smallArea weighing ≡ false
-      unfolding smallArea taskArea
-      no-21 =
-          let few = few-cells w (budgetIn w) ok (budget-fits w (accepted w ok)) in
-          le-ltb (length area) (taskArea (task w)) (omega arith)
+      -- no 21
+      area-fits : taskArea (task w) ≤ length area
+      unfolding taskArea areaSize
+      area-fits =
+          let A = accepted w ok in
+          let n = header w .blocks in
+          let b = budgetIn w in
+          omega (arith, few-cells n b (A .sound .form .blocks .1) (A .budget), count-code n b)
 
       no-22 : tooMany (heading (boundedSheet w)) ≡ false → smallOutput w out ≡ false
       unfolding smallOutput
@@ -75,10 +104,10 @@ module _ (w area out : List ℕ) where
 
       -- 9
       weighs : {b : Bool} → nothingFits (task w) ≡ b → refused weighOrder weighing ≡ pick b 9 0
-      unfolding sheetRefusal weighOrder
+      unfolding weighOrder
       weighs e =
-          over-passes (λ (i : Weighing). i .sheet) sheetOrder _ weighing graph-numbered ok
-          ∙ tested 21 smallArea _ weighing no-21 (tested 9 _ _ weighing e (none-left weighing))
+          append-passes frontOrder fitOrder weighing front-numbered (area-passes w area ok area-fits)
+          ∙ tested 9 _ [] weighing e (none-left weighing)
 
       lists : {b c : Bool} → nothingFits (task w) ≡ b → tooMany (heading (boundedSheet w)) ≡ c → refused listingOrder w ≡ pick b 9 (pick c 10 0)
       unfolding sheetRefusal listingOrder

@@ -1,0 +1,2 @@
+-- the bounded sheet with which a row begins: mostWords, frontSheet
+pub mod Front
