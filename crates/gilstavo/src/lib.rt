@@ -1,5 +1,5 @@
 // The public calls on numbers and slices, for C and Rust: a slice crosses as a pointer and a length, a walk as a row of three words.
-// Rests on graph_check, weigh_sheet, build, bounded_check, reader, moves; the promises are theirs, and specs WalkWords and Steps for a walk's words.
+// Rests on graph_check, weigh_sheet, build, bounded_check, reader, guarded_moves, bounded_moves; the promises are theirs, and specs WalkWords and Steps for a walk's words.
 ghost use mathlib.Core.Path.{_≡_};
 ghost use lib.ListN.{length, getD};
 ghost use Rattle.formats.specs.GraphSheet.{sheetRefusal, countSuccessors};
@@ -17,8 +17,8 @@ use bounded_check::check_bounded;
 use build::build;
 use graph_check::check_graph;
 use graph_check::count_successors;
-use moves::bounded_move;
-use moves::guarded_move;
+use bounded_moves::bounded_move;
+use guarded_moves::guarded_move;
 use reader::edge_words_place;
 use walk::End;
 use walk::Walk;

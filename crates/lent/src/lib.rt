@@ -1,10 +1,10 @@
 // Public calls: the two moves on a lent walk, which is changed where it stands.
-// Rests on moves, whose moves take the walk by value; the promises are calls Moves.
+// Rests on guarded_moves and bounded_moves, whose moves take the walk by value; the promises are calls Moves.
 ghost use mathlib.Core.Path.{_≡_};
 ghost use Rattle.calls.specs.Moves.{guardedMove, boundedMove};
 ghost use Rattle.walk.specs.Walks.{walkOf};
-use moves::bounded_move;
-use moves::guarded_move;
+use bounded_moves::bounded_move;
+use guarded_moves::guarded_move;
 use walk::Walk;
 
 // A guarded move in place.

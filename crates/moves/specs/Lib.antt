@@ -1,3 +1,0 @@
--- What the contracts below the public calls cite; the public calls cite calls Moves.
--- Rests on formats.
-pub mod Edges
