@@ -146,6 +146,15 @@ chosen-some [] (suc i) p l = absurd (omega arith)
 chosen-some (x ∷ xs) (suc zero) p l = (x, refl)
 chosen-some (x ∷ xs) (suc (suc i)) p l = chosen-some xs (suc i) (omega arith) (omega arith)
 
+-- a list that goes on with x behind its first k
+pub drop-here : {A : Type 0} (xs : List A) (k : ℕ) (x : A) (ys : List A) → drop k xs ≡ x ∷ ys
+    → (k < length xs) × (chosen xs (suc k) ≡ some x) × (drop (suc k) xs ≡ ys)
+unfolding chosen
+drop-here [] zero x ys e = absurd (omega (arith, ap length e))
+drop-here [] (suc k) x ys e = absurd (omega (arith, ap length e))
+drop-here (z ∷ xs) zero x ys e = (omega arith, cc, cc)
+drop-here (z ∷ xs) (suc k) x ys e = let r = drop-here xs k x ys e in (omega (arith, r .0), r .1, r .2)
+
 -- two lists of one length have the same choices
 pub data Both {X Y : Type 0} : Option X → Option Y → Type 0 where
   neither : Both none none

@@ -1,15 +1,14 @@
 // A public call: a guarded move on a graph sheet, with the walk by value.
 // Rests on weigh_sheet, graph_row, look, walk; the promise is calls Moves.
 ghost use mathlib.Core.Path.{_≡_};
-ghost use Prim.Native.Nat.{suc, _≤_};
+ghost use Prim.Native.Nat.{_≤_};
 ghost use lib.ListN.{length};
-ghost use Rattle.base.specs.Checks.{refused};
 ghost use Rattle.theory.specs.Machines.{reply};
 ghost use Rattle.theory.specs.Walks.{InShape, monitor};
 ghost use Rattle.formats.specs.Limits.{mostBudget};
 ghost use Rattle.formats.specs.GraphSheet.{sheetRefusal};
 ghost use Rattle.calls.specs.SheetGraph.{task};
-ghost use Rattle.calls.specs.Area.{filled, Table};
+ghost use Rattle.calls.specs.Area.{Table};
 ghost use Rattle.calls.specs.Weigh.{taskArea};
 ghost use Rattle.calls.specs.Moves.{guardedMove};
 ghost use Rattle.graph_row.specs.GraphRow.{blocksIn, graphIn, Flat};

@@ -4,7 +4,7 @@ use mathlib.Core.Path.{_≡_, refl, sym, ap, ap₂, subst, _∙_}
 use mathlib.Core.Bool.{Bool, true, false}
 use mathlib.Core.List.{List, [], _∷_}
 use mathlib.Core.Option.{some}
-use Prim.Native.Nat.{ℕ, zero, suc, _+_, _≤_, _<_, _%_}
+use Prim.Native.Nat.{ℕ, suc, _+_, _≤_, _<_, _%_}
 use native.Mathlib.Decide.{ℕ-discrete, decLt}
 use native.Mathlib.Numerals.{add-one}
 use native.Mathlib.Omega.{arith}
@@ -14,7 +14,7 @@ use Rattle.base.specs.Lists.{any, chosen}
 use Rattle.base.specs.Cells.{cellOf, cellCount, isSet}
 use Rattle.base.specs.Copy.{Copy, copyOf, same, isIn, numberFrom}
 use Rattle.base.proofs.Truth.{not-both, else-false, or-false}
-use Rattle.base.proofs.Lists.{keep-e, chosen-mem, one-place}
+use Rattle.base.proofs.Lists.{keep-e, chosen-mem, drop-here, one-place}
 use Rattle.base.proofs.Cells.{cell-inside, one-cell}
 use Rattle.base.proofs.Copies.{isIn-mem, rising-keep, rising-distinct, number-chosen}
 use Rattle.theory.specs.Copies.{candidates}
@@ -28,15 +28,6 @@ use Rattle.tables.proofs.Places.{cell-block, first-cell, next-low, next-block, 
 use Rattle.tables.proofs.Rest.{rest, rest-start, rest-end, mark-of, rest-yes, rest-no, Scan}
 use Rattle.number.specs.Entries.{entryBefore, nextEntry}
 use Rattle.number.proofs.Entries.{entry, before, entry-yes, entry-no}
-
--- a list that goes on with x behind its first k
-drop-here : {A : Type 0} (xs : List A) (k : ℕ) (x : A) (ys : List A) → drop k xs ≡ x ∷ ys
-    → (k < length xs) × (chosen xs (suc k) ≡ some x) × (drop (suc k) xs ≡ ys)
-unfolding chosen
-drop-here [] zero x ys e = absurd (omega (arith, ap length e))
-drop-here [] (suc k) x ys e = absurd (omega (arith, ap length e))
-drop-here (z ∷ xs) zero x ys e = (omega arith, cc, cc)
-drop-here (z ∷ xs) (suc k) x ys e = let r = drop-here xs k x ys e in (omega (arith, r .0), r .1, r .2)
 
 -- what is not in the list has no number
 no-number : (n : ℕ) (c : Copy) (xs : List Copy) → isIn c xs ≡ false → numberFrom n c xs ≡ 0

@@ -1,13 +1,16 @@
 -- The reply of a machine to a choice, case by case, and the most moves of a walk in shape.
--- Rests on base Options, theory Machines and Walks.
+-- Rests on base Options, theory Machines and Walks, calls Weigh.
 use mathlib.Core.Path.{_≡_, refl}
+use mathlib.Core.Bool.{false}
 use mathlib.Core.Option.{Option, some, none}
 use Prim.Native.Nat.{ℕ, suc, _-_, _≤_}
 use native.Mathlib.Omega.{arith}
-use Rattle.base.specs.Lists.{optionOf, chosen}
+use Rattle.base.specs.Lists.{any, chosen, from, member, optionOf}
 use Rattle.base.proofs.Options.{option-none, option-some}
 use Rattle.theory.specs.Machines.{End, going, exit, diverted, Machine, taken, replyAt, reply}
 use Rattle.theory.specs.Walks.{mostMoves}
+use Rattle.calls.specs.Weigh.{beforeWeighing}
+use Rattle.calls.proofs.Weigh.{spared}
 
 -- A MACHINE, where the k-th target is x - 1, if any
 module _ {S : Type 0} (m : Machine S ℕ) (s : S) (k : ℕ) where
@@ -32,6 +35,20 @@ module _ {S : Type 0} (m : Machine S ℕ) (s : S) (k : ℕ) where
     pub takes : (x ≡ 0 → ⊥) → (a : S) → a ≡ m .take s (x - 1) → record { answer = 0; after = a } ≡ reply m s k
     unfolding taken
     takes n a e = rw e (replies (some (x - 1)) (option-some x q n))
+
+-- a machine answers 0, 31 or 32, numbers that are not checked before weighing
+pub reply-late : {S : Type 0} (m : Machine S ℕ) (s : S) (k : ℕ) → beforeWeighing (reply m s k .answer) ≡ false
+unfolding reply replyAt taken any member from
+reply-late m s k = stands (m .stands s)
+  where
+    chooses : (o : Option ℕ) → beforeWeighing (taken m s o .answer) ≡ false
+    chooses none = spared 31
+    chooses (some x) = spared 0
+
+    stands : (e : End) → beforeWeighing (replyAt m e s k .answer) ≡ false
+    stands going = chooses (chosen (m .targets s) k)
+    stands exit = spared 32
+    stands diverted = spared 32
 
 -- the moves of a walk in shape are few
 pub most-fits : (b : ℕ) (e : End) → mostMoves b e ≤ suc b

@@ -1,5 +1,5 @@
 -- A bounded move of the walk that the words stand for.
--- Rests on moves `bounded_move`, Words.
+-- Rests on bounded_moves `bounded_move`, Words.
 use mathlib.Core.Path.{sym, _∙_}
 use borrow.Author.Needs.{needs}
 use Rattle.gilstavo.specs.Steps.{boundedStep}

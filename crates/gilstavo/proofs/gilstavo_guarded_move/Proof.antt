@@ -1,5 +1,5 @@
 -- A guarded move of the walk that the words stand for.
--- Rests on moves `guarded_move`, Words.
+-- Rests on guarded_moves `guarded_move`, Words.
 use mathlib.Core.Path.{sym, _∙_}
 use borrow.Author.Needs.{needs}
 use Rattle.calls.specs.Moves.{guardedMove}
