@@ -10,7 +10,7 @@ ghost use Rattle.base.specs.Cells.{cellCount};
 ghost use Rattle.base.specs.Lists.{isNone};
 ghost use Rattle.theory.specs.Completions.{lowOf};
 ghost use Rattle.theory.specs.Tasks.{copiesIn};
-ghost use Rattle.formats.specs.Limits.{mostBudget, mostCopies, mostBoundedEdges};
+ghost use Rattle.formats.specs.Limits.{leastWords, mostBudget, mostCopies, mostBoundedEdges, wordLimit};
 ghost use Rattle.formats.specs.GraphSheet.{header};
 ghost use Rattle.calls.specs.SheetGraph.{task, boundedFor};
 ghost use Rattle.calls.specs.Area.{Table};
@@ -255,19 +255,15 @@ fn build_large(s: &[u16], area: &mut [u8], out: &mut [u16]) -> u16
 
 // THE CALL
 
-// Whether a row begins with the header of a sheet for which middling rows are enough.
-pub fn is_little(s: &[u16]) -> bool
-    ensures { λ r. ⌜ (r ≡ true → Little (now (s .entry))) ⌝ }
+// Whether middling rows may be too small for n blocks and the budget b.
+fn is_large(n: usize, b: usize) -> bool
+    requires { ⌜ b < wordLimit ⌝ }
+    ensures { λ r. ⌜ (r ≡ false → (n ≤ 32) × (cellCount n b ≤ 2048)) ⌝ }
 {
-    if s.len() < LEAST_WORDS {
-        return false;
+    if SOME_BLOCKS < n {
+        return true;
     }
-    let h = read_header(s);
-    if SOME_BLOCKS < h.blocks {
-        return false;
-    }
-    let b = budget(s);
-    h.blocks * (b + 1) <= SOME_CELLS
+    SOME_CELLS < n * (b + 1)
 }
 
 // Whether a sheet is small.
@@ -283,7 +279,7 @@ fn is_small(n: usize, m: usize, cells: usize) -> bool
     cells <= FEW_CELLS
 }
 
-// The build of such a sheet that passes 1 to 8 and 21.
+// The build of a little sheet that passes 1 to 8 and 21.
 fn build_passed(s: &[u16], area: &mut [u8], out: &mut [u16]) -> u16
     requires { ⌜ Passes (now s) (now area) ⌝ }
     requires { ⌜ Little (now s) ⌝ }
@@ -300,9 +296,9 @@ fn build_passed(s: &[u16], area: &mut [u8], out: &mut [u16]) -> u16
     build_middling(s, area, out)
 }
 
-// The build of a sheet for which middling rows are enough.
-pub fn build_little(s: &[u16], area: &mut [u8], out: &mut [u16]) -> u16
-    requires { ⌜ Little (now s) ⌝ }
+// The build of a row that is little, or too short for a header.
+fn build_little(s: &[u16], area: &mut [u8], out: &mut [u16]) -> u16
+    requires { ⌜ (leastWords ≤ length (now s) → Little (now s)) ⌝ }
     ensures { λ r. ⌜ r ≡ built (now (s .entry)) (now (area .entry)) (now (out .entry)) .answer ⌝ }
     ensures { λ _. ⌜ now (area .exit) ≡ built (now (s .entry)) (now (area .entry)) (now (out .entry)) .area ⌝ }
     ensures { λ _. ⌜ now (out .exit) ≡ built (now (s .entry)) (now (area .entry)) (now (out .entry)) .output ⌝ }
@@ -314,8 +310,8 @@ pub fn build_little(s: &[u16], area: &mut [u8], out: &mut [u16]) -> u16
     build_passed(s, area, out)
 }
 
-// 1 to 8, 21, 9, 10, 22 in this order, else 0 and the bounded sheet in the first words of the output row; in rows for any sheet.
-pub fn build_any(s: &[u16], area: &mut [u8], out: &mut [u16]) -> u16
+// The same in rows for any sheet.
+fn build_any(s: &[u16], area: &mut [u8], out: &mut [u16]) -> u16
     ensures { λ r. ⌜ r ≡ built (now (s .entry)) (now (area .entry)) (now (out .entry)) .answer ⌝ }
     ensures { λ _. ⌜ now (area .exit) ≡ built (now (s .entry)) (now (area .entry)) (now (out .entry)) .area ⌝ }
     ensures { λ _. ⌜ now (out .exit) ≡ built (now (s .entry)) (now (area .entry)) (now (out .entry)) .output ⌝ }
@@ -327,14 +323,19 @@ pub fn build_any(s: &[u16], area: &mut [u8], out: &mut [u16]) -> u16
     build_large(s, area, out)
 }
 
-// The same, in rows as large as the sheet asks.
+// 1 to 8, 21, 9, 10, 22 in this order, else 0 and the bounded sheet in the first words of the output row; in rows as large as it asks.
 pub fn build(s: &[u16], area: &mut [u8], out: &mut [u16]) -> u16
     ensures { λ r. ⌜ r ≡ built (now (s .entry)) (now (area .entry)) (now (out .entry)) .answer ⌝ }
     ensures { λ _. ⌜ now (area .exit) ≡ built (now (s .entry)) (now (area .entry)) (now (out .entry)) .area ⌝ }
     ensures { λ _. ⌜ now (out .exit) ≡ built (now (s .entry)) (now (area .entry)) (now (out .entry)) .output ⌝ }
 {
-    if is_little(s) {
+    if s.len() < LEAST_WORDS {
         return build_little(s, area, out);
     }
-    build_any(s, area, out)
+    let h = read_header(s);
+    let b = budget(s);
+    if is_large(h.blocks, b) {
+        return build_any(s, area, out);
+    }
+    build_little(s, area, out)
 }

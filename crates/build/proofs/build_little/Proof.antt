@@ -1,7 +1,8 @@
 -- The front first, then the rest.
--- Rests on calls Weigh, Front.
+-- Rests on formats Accepted, calls Weigh, Front.
 use borrow.Author.Needs.{needs}
 use mathlib.Core.Path.{sym, _∙_}
+use Rattle.formats.proofs.Accepted.{accepted}
 use Rattle.calls.proofs.Weigh.{front-passes}
 use Rattle.build.proofs.Front.{front-refused}
 use Rattle.build.proofs.build_little.Statement.{statement}
@@ -15,7 +16,7 @@ returns c =
 build-passed-requires : tie.Need-build-passed-requires
 build-passed-requires c κs =
     let p = front-passes _ (sym (c .before .before .before .front .ensures) ∙ c .before .before .if1 .left) in
-    (record { ok = p .0; room = p .1 }, c .before .before .before .before .before .before .before .before .pre)
+    (record { ok = p .0; room = p .1 }, c .before .before .before .before .before .before .before .before .pre (accepted _ (p .0) .long))
 
 returns-2 : tie.Need-returns-2
 returns-2 c = c .before .before .before .before .build-passed .ensures
