@@ -14,11 +14,11 @@ ghost use Rattle.report_lines.specs.Lines.{lineRoom, unusedRoom};
 ghost use Rattle.catalogue.specs.Standing.{Ready, Standing, Next};
 ghost use Rattle.catalogue.specs.Parts.{closingPart};
 use figures::report_item;
-use words::MOST_BLOCKS;
 use report_lines::write_most;
 use report_lines::write_total;
 use report_lines::write_unused;
 use tally::Tally;
+use words::MOST_BLOCKS;
 
 // The sheets of a catalogue; words after them are ignored.
 pub const MOST_SHEETS: usize = 200;

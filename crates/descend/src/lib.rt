@@ -13,14 +13,14 @@ ghost use Rattle.tables.specs.Tables.{Lows, markedCopies};
 ghost use Rattle.tables.specs.Rows.{edgesOf};
 ghost use Rattle.graph_row.specs.GraphRow.{blocksIn, graphIn, taskIn, Flat};
 ghost use Rattle.descend.specs.Marks.{Clear, edgesLeft, Met, Serves, AllMet, Grown, FromCopy, FromChain, Ready};
-use words::MOST_BOUNDED_EDGES;
 use graph_row::cost_in;
 use graph_row::degree_in;
 use graph_row::start_in;
-use words::word_at;
 use tables::entry;
 use tables::is_marked;
 use tables::mark;
+use words::MOST_BOUNDED_EDGES;
+use words::word_at;
 
 // One copy of v: x is one more than its low, and 0 for none. left is one more than the edges that may still come, and the answer
 // what is left of it: 0 once there are too many, and then the descent stops.

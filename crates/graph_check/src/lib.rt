@@ -12,6 +12,8 @@ ghost use Rattle.graph_check.specs.Headers.{edgeStage};
 use chains::chain_length;
 use chains::mark_chain;
 use chains::misses;
+use headers::budget;
+use headers::read_header;
 use words::LEAST_BLOCKS;
 use words::LEAST_EDGES;
 use words::LEAST_WORDS;
@@ -20,8 +22,6 @@ use words::MOST_BUDGET;
 use words::MOST_EDGES;
 use words::field;
 use words::is_outside;
-use headers::budget;
-use headers::read_header;
 
 // THE FORM: 1 to 4
 

@@ -52,13 +52,7 @@ fn decode(s: &[u16], row: &mut [u16])
 
 // Behind these: the sheet is decoded, once, into a row that is lent, and its graph weighed, with lists that are lent, of r + 1 places for
 // each block. 9 where nothing fits, else 0.
-pub fn weigh_into(
-    s: &[u16],
-    row: &mut [u16],
-    lists: &mut [u8],
-    r: usize,
-    area: &mut [u8],
-) -> u16
+pub fn weigh_into(s: &[u16], row: &mut [u16], lists: &mut [u8], r: usize, area: &mut [u8]) -> u16
     requires { ⌜ (sheetRefusal (now s) ≡ 0) × (taskArea (task (now s)) ≤ length (now area)) ⌝ }
     requires { ⌜ 1 + 3 * header (now s) .blocks + header (now s) .edges ≤ length (now row) ⌝ }
     requires { ⌜ (header (now s) .blocks ≤ suc r) × (r ≤ mostBudget) × (cellCount (header (now s) .blocks) r ≤ length (now lists)) ⌝ }

@@ -19,11 +19,11 @@ use graph_row::blocks_in;
 use graph_row::cost_in;
 use graph_row::degree_in;
 use graph_row::start_in;
-use words::word_at;
 use tables::cell_at;
 use tables::cell_count;
 use tables::entry;
 use tables::next_marked;
+use words::word_at;
 
 // Puts three words.
 pub fn put_three(out: &mut [u16], at: usize, x: usize, y: usize, z: usize)

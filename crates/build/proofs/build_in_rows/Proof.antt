@@ -32,9 +32,13 @@ build-weighed-requires c κs =
     let e = c .before .before .before .before .before .before .before .before .before .before .before .before .before .weigh-into .ensures in
     let D = e .1 .1 in
     let b = c .before .before .before .before .before .budget .ensures .0 in
-    let k = z .pre .1 .1 .1 .0 in
-    (D .flat, ((small-budget _ _ P D b, something-fits _ _ P D b (sym (e .0) ∙ c .before .before .before .before .before .before .if1 .left)),
-    (row-table _ _ P D b (e .1 .0), ((row-cells _ _ P D b (k .0), row-cells _ _ P D b (k .1)), z .pre .1 .1 .1 .1))))
+    let k = z .pre .1 .1 .1 .0 in (
+      D .flat,
+      (
+        (small-budget _ _ P D b, something-fits _ _ P D b (sym (e .0) ∙ c .before .before .before .before .before .before .if1 .left)),
+        (row-table _ _ P D b (e .1 .0), ((row-cells _ _ P D b (k .0), row-cells _ _ P D b (k .1)), z .pre .1 .1 .1 .1)),
+      ),
+    )
 
 returns-2 : tie.Need-returns-2
 returns-2 c =

@@ -13,9 +13,16 @@ build-in-rows-requires : tie.Need-build-in-rows-requires
 build-in-rows-requires c κs =
     let z = c .before .before .before .before .before .before .before .before .before in
     let w = z .args .s .now in
-    let W = any-sheet w (z .args .area .now) (z .pre) in
-    (z .pre, (omega (arith, W .blocks, W .edges), ((omega (arith, W .blocks), omega arith, few-places (header w .blocks) 127 128 (W .blocks) (omega arith)),
-    ((rw length-replicate (W .cells), rw length-replicate (W .cells)), zeros-clear 64128))))
+    let W = any-sheet w (z .args .area .now) (z .pre) in (
+      z .pre,
+      (
+        omega (arith, W .blocks, W .edges),
+        (
+          (omega (arith, W .blocks), omega arith, few-places (header w .blocks) 127 128 (W .blocks) (omega arith)),
+          ((rw length-replicate (W .cells), rw length-replicate (W .cells)), zeros-clear 64128),
+        ),
+      ),
+    )
 
 returns : tie.Need-returns
 returns c = c .before .before .before .before .before .before .before .before .build-in-rows .ensures

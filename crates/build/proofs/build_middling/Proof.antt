@@ -13,9 +13,16 @@ build-in-rows-requires : tie.Need-build-in-rows-requires
 build-in-rows-requires c κs =
     let z = c .before .before .before .before .before .before .before .before .before in
     let w = z .args .s .now in
-    let W = z .pre .1 in
-    (z .pre .0, (omega (arith, W .blocks, W .edges), ((omega (arith, W .blocks), omega arith, few-places (header w .blocks) 31 32 (W .blocks) (omega arith)),
-    ((rw length-replicate (W .cells), rw length-replicate (W .cells)), zeros-clear 2048))))
+    let W = z .pre .1 in (
+      z .pre .0,
+      (
+        omega (arith, W .blocks, W .edges),
+        (
+          (omega (arith, W .blocks), omega arith, few-places (header w .blocks) 31 32 (W .blocks) (omega arith)),
+          ((rw length-replicate (W .cells), rw length-replicate (W .cells)), zeros-clear 2048),
+        ),
+      ),
+    )
 
 returns : tie.Need-returns
 returns c = c .before .before .before .before .before .before .before .before .build-in-rows .ensures

@@ -30,12 +30,14 @@ cells-are w p q e = e ∙ ap₂ cellCount (ap (λ (h : Header). h .blocks) p) q
 build-small-requires : tie.Need-build-small-requires
 build-small-requires c κs =
     let r = c .before .before .before .before .before .before .read-header .ensures .0 in
-    let k = c .before .before .before .is-small .ensures (c .before .before .if1 .taken) in
-    (c .before .before .before .before .before .before .before .before .before .before .pre .0, record {
-      blocks = omega (arith, k .0, ap (λ (h : Header). h .blocks) r);
-      edges = omega (arith, k .1, ap (λ (h : Header). h .edges) r);
-      cells = omega (arith, k .2, cells-are (c .before .before .before .before .before .before .before .before .before .before .args .s .now) r (c .before .before .before .before .before .budget .ensures .0) (c .before .before .before .before .cell-count .ensures .0));
-    })
+    let k = c .before .before .before .is-small .ensures (c .before .before .if1 .taken) in (
+      c .before .before .before .before .before .before .before .before .before .before .pre .0,
+      record {
+        blocks = omega (arith, k .0, ap (λ (h : Header). h .blocks) r);
+        edges = omega (arith, k .1, ap (λ (h : Header). h .edges) r);
+        cells = omega (arith, k .2, cells-are (c .before .before .before .before .before .before .before .before .before .before .args .s .now) r (c .before .before .before .before .before .budget .ensures .0) (c .before .before .before .before .cell-count .ensures .0));
+      },
+    )
 
 returns : tie.Need-returns
 returns c = c .before .before .before .before .build-small .ensures

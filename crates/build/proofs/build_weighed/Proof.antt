@@ -30,9 +30,10 @@ number-requires : tie.Need-number-requires
 number-requires c κs =
     let p = c .before .before .before .before .before .before .before .before .before .before .before .before .before .before .before .before .pre in
     let f = c .before .before .before .before .before .before .before .before .find-copies .ensures in
-    rw (c .before .before .blocks-in .ensures .0)
-    ((p .0 .blocks .1, p .1 .0 .0),
-    (p .1 .1 .0 .room, omega (arith, f .0 .1, p .1 .1 .1 .0 .1), omega (arith, f .0 .0, p .1 .1 .1 .0 .0)))
+    rw (c .before .before .blocks-in .ensures .0) (
+      (p .0 .blocks .1, p .1 .0 .0),
+      (p .1 .1 .0 .room, omega (arith, f .0 .1, p .1 .1 .1 .0 .1), omega (arith, f .0 .0, p .1 .1 .1 .0 .0)),
+    )
 
 write-numbered-requires : tie.Need-write-numbered-requires
 write-numbered-requires c κs =

@@ -44,9 +44,10 @@ unfolding outputAt
 returns-3 c =
     let z = c .before .before .before .before .before .before .before .before .before .before in
     let T = taskIn (z .args .row .now) (z .args .b) in
-    let q = z .pre .1 .1 .1 .1 in
-    (long-row T (length (z .args .out .now)) (omega (arith, q .0)) (omega (arith, q .1)) (omega (arith, q .0, q .1, sheet-length T)),
-    c .before .before .write-sheet .ensures)
+    let q = z .pre .1 .1 .1 .1 in (
+      long-row T (length (z .args .out .now)) (omega (arith, q .0)) (omega (arith, q .1)) (omega (arith, q .0, q .1, sheet-length T)),
+      c .before .before .write-sheet .ensures,
+    )
 
 pub write-numbered-spec : {M : Type 1} → statement M
 write-numbered-spec =

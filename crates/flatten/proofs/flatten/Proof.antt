@@ -58,9 +58,10 @@ copy-targets-requires c κs =
     let D = l .loop .inv .0 in
     let t = c .before .before .loop-test .taken in
     let f = c .before .field .ensures .0 in
-    let e = ap length (targets-are (headerOf (z .args .at) (z .args .n) (z .args .m)) (z .args .s .now) _ (D .range .0) t f) in
-    ((omega (arith, z .pre .0 .form .size), chain-inside _ _ (z .pre .0) (D .range .0) t f),
-    omega (arith, e, copy-fits _ _ (z .pre .0) D t .0))
+    let e = ap length (targets-are (headerOf (z .args .at) (z .args .n) (z .args .m)) (z .args .s .now) _ (D .range .0) t f) in (
+      (omega (arith, z .pre .0 .form .size), chain-inside _ _ (z .pre .0) (D .range .0) t f),
+      omega (arith, e, copy-fits _ _ (z .pre .0) D t .0),
+    )
 
 field-requires-2 : tie.Need-field-requires-2 Inv-loop μ-loop
 field-requires-2 c κs =
@@ -78,9 +79,10 @@ put-block-requires c κs =
     let t = u .before .loop-test .taken in
     let b = block-fits _ _ (z .pre .0) D t in
     let d = degree-small _ _ (z .pre .0) D t in
-    let e = ap length (targets-are (headerOf (z .args .at) (z .args .n) (z .args .m)) (z .args .s .now) _ (D .range .0) t (u .field .ensures .0)) in
-    ((b .0, b .1, omega (arith, b .2, k .1 .size)),
-    (c .before .field2 .ensures .1, copy-fits _ _ (z .pre .0) D t .1, omega (arith, k .0, e)))
+    let e = ap length (targets-are (headerOf (z .args .at) (z .args .n) (z .args .m)) (z .args .s .now) _ (D .range .0) t (u .field .ensures .0)) in (
+      (b .0, b .1, omega (arith, b .2, k .1 .size)),
+      (c .before .field2 .ensures .1, copy-fits _ _ (z .pre .0) D t .1, omega (arith, k .0, e)),
+    )
 
 loop-again : tie.Need-loop-again Inv-loop μ-loop
 loop-again c =
@@ -92,10 +94,11 @@ loop-again c =
     let t = u .before .loop-test .taken in
     let q = targets-are (headerOf (z .args .at) (z .args .n) (z .args .m)) (z .args .s .now) _ (D .range .0) t (u .field .ensures .0) in
     let put = c .before .before .put-block .ensures in
-    let C = rw q at (k .1) in
-    (rw put (decoding-on _ _ (z .pre .0) D t C
-    (cost-read _ _ (D .range .0) t (c .before .before .before .before .field2 .ensures .0)) (k .0 ∙ ap (λ (ts : List ℕ). l .loop .place + length ts) q)),
-    c .before .before .put-block .kept .0 ∙ k .1 .size ∙ l .loop .inv .1)
+    let C = rw q at (k .1) in (
+      rw put (decoding-on _ _ (z .pre .0) D t C
+          (cost-read _ _ (D .range .0) t (c .before .before .before .before .field2 .ensures .0)) (k .0 ∙ ap (λ (ts : List ℕ). l .loop .place + length ts) q)),
+      c .before .before .put-block .kept .0 ∙ k .1 .size ∙ l .loop .inv .1,
+    )
 
 same-length : tie.Need-same-length Inv-loop μ-loop
 same-length c =

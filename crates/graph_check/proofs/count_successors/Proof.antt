@@ -28,9 +28,10 @@ successor-count-requires : tie.Need-successor-count-requires
 successor-count-requires c κs =
     let z = c .before .before .before in
     let ok = sym (z .before .check-graph .ensures) ∙ z .if1 .left in
-    let w = z .before .before .before .args .s .now in
-    (subst (λ (h : Header). Sound h w) (sym (c .before .before .read-header .ensures .0)) (accepted w ok .sound),
-    inside-of 1 _ _ (sym (c .before .is-outside .ensures) ∙ c .if2 .left))
+    let w = z .before .before .before .args .s .now in (
+      subst (λ (h : Header). Sound h w) (sym (c .before .before .read-header .ensures .0)) (accepted w ok .sound),
+      inside-of 1 _ _ (sym (c .before .is-outside .ensures) ∙ c .if2 .left),
+    )
 
 returns-3 : tie.Need-returns-3
 returns-3 c =

@@ -27,9 +27,10 @@ returns : tie.Need-returns
 unfolding successorCount
 returns c =
     let z = c .before .before .before in
-    let h = headerOf (z .args .at) (z .args .n) (z .args .m) in
-    (c .chain-length .ensures .0 ∙ ap (chainLength (nextWord h (z .args .s .now)) (suc (z .args .m))) (c .before .field .ensures .0),
-    omega (arith, c .chain-length .ensures .1, z .pre .0 .form .edges))
+    let h = headerOf (z .args .at) (z .args .n) (z .args .m) in (
+      c .chain-length .ensures .0 ∙ ap (chainLength (nextWord h (z .args .s .now)) (suc (z .args .m))) (c .before .field .ensures .0),
+      omega (arith, c .chain-length .ensures .1, z .pre .0 .form .edges),
+    )
 
 pub successor-count-spec : {M : Type 1} → statement M
 successor-count-spec =

@@ -18,9 +18,10 @@ flatten-requires : tie.Need-flatten-requires
 flatten-requires c κs =
     let r = c .before .read-header .ensures .0 in
     let z = c .before .before .before .before in
-    let w = z .args .s .now in
-    (subst (λ (h : Header). Sound h w) (sym r) (accepted w (z .pre .0) .sound),
-    omega (arith, z .pre .1, ap (λ (h : Header). h .blocks) r, ap (λ (h : Header). h .edges) r))
+    let w = z .args .s .now in (
+      subst (λ (h : Header). Sound h w) (sym r) (accepted w (z .pre .0) .sound),
+      omega (arith, z .pre .1, ap (λ (h : Header). h .blocks) r, ap (λ (h : Header). h .edges) r),
+    )
 
 returns : tie.Need-returns
 returns c =

@@ -34,10 +34,11 @@ returns c =
     let d = m .before .before .before .before .before .before .before in
     let z = d .before .before .before .before .before .before in
     let b = m .before .before .before .before .budget .ensures .0 in
-    let D = d .decode .ensures in
-    (fits-not _ _ (k .look-up .result .low)
-    (start-low _ _ (z .pre .0 .0) (z .pre .0 .1) D b (m .weigh .ensures) _ (k .look-up .ensures)) (c .if1 .taken),
-    (area-filled _ _ (z .pre .0 .0) (z .pre .0 .1) D b (m .weigh .ensures), D))
+    let D = d .decode .ensures in (
+      fits-not _ _ (k .look-up .result .low)
+          (start-low _ _ (z .pre .0 .0) (z .pre .0 .1) D b (m .weigh .ensures) _ (k .look-up .ensures)) (c .if1 .taken),
+      (area-filled _ _ (z .pre .0 .0) (z .pre .0 .1) D b (m .weigh .ensures), D),
+    )
 
 returns-2 : tie.Need-returns-2
 returns-2 c =
@@ -46,10 +47,11 @@ returns-2 c =
     let d = m .before .before .before .before .before .before .before in
     let z = d .before .before .before .before .before .before in
     let b = m .before .before .before .before .budget .ensures .0 in
-    let D = d .decode .ensures in
-    (fits _ _ (k .look-up .result .low)
-    (start-low _ _ (z .pre .0 .0) (z .pre .0 .1) D b (m .weigh .ensures) _ (k .look-up .ensures)) (c .if1 .left),
-    (area-filled _ _ (z .pre .0 .0) (z .pre .0 .1) D b (m .weigh .ensures), D))
+    let D = d .decode .ensures in (
+      fits _ _ (k .look-up .result .low)
+          (start-low _ _ (z .pre .0 .0) (z .pre .0 .1) D b (m .weigh .ensures) _ (k .look-up .ensures)) (c .if1 .left),
+      (area-filled _ _ (z .pre .0 .0) (z .pre .0 .1) D b (m .weigh .ensures), D),
+    )
 
 pub weigh-into-spec : {M : Type 1} → statement M
 weigh-into-spec =
