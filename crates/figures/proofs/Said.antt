@@ -1,5 +1,5 @@
 -- What is said of a refused and of an accepted sheet, from what the calls below answer and leave.
--- Rests on formats Report and Accepted, calls Unused and Built, digits Wrote and Due, text Kept, unused Named, specs Says.
+-- Rests on formats Report, Accepted and RuleRead, calls Unused and Built, digits Wrote and Due, unused Named, specs Says.
 use mathlib.Core.Path.{_≡_, refl, sym, ap, subst, _∙_}
 use mathlib.Core.List.{List}
 use Prim.Native.Nat.{ℕ, zero, suc, _≤_, _<_}
@@ -12,6 +12,7 @@ use Rattle.formats.specs.BoundedSheet.{Heading, heading}
 use Rattle.formats.specs.Rule11.{boundedRefusal}
 use Rattle.formats.specs.Report.{Figures, unusedBlocks, refusedAs, figuresLine, refusedLine, sheetLine}
 use Rattle.formats.proofs.Accepted.{accepted}
+use Rattle.formats.proofs.RuleRead.{clauses}
 use Rattle.calls.specs.SheetGraph.{boundedSheet}
 use Rattle.calls.specs.Program.{listingOrder}
 use Rattle.calls.specs.Report.{acceptedFigures, sheetFigures}
@@ -19,7 +20,6 @@ use Rattle.calls.proofs.Built.{keeps-rule}
 use Rattle.calls.proofs.Unused.{sheet-accepted, sheet-refused, listed}
 use Rattle.digits.specs.Wrote.{Wrote}
 use Rattle.digits.proofs.Due.{wrote-as}
-use Rattle.text.proofs.Kept.{kept}
 use Rattle.unused.specs.Marks.{markedBlocks, First}
 use Rattle.unused.proofs.Named.{names-none}
 use Rattle.figures.specs.declared.Reported.{Reported}
@@ -53,7 +53,7 @@ module _ (w : List ℕ) (e : refused listingOrder w ≡ 0) where
     rule-kept = ap boundedRefusal q ∙ keeps-rule w (listed w e)
 
     pub bounded-long : leastWords ≤ length t
-    bounded-long = kept t rule-kept .long
+    bounded-long = clauses t rule-kept .long
 
     -- by what the two headers were read as
     module _ {g : Header} {h : Heading} (a : g ≡ header w) (b : h ≡ heading t) where

@@ -1,6 +1,6 @@
 -- lines, part by part: line-read, listing-is, refusal-is
 pub mod Lines
--- what rule 11 gives, number by number: kept, kept-read; block-inside, chain-inside, target-most, readable
+-- what rule 11 gives, number by number: block-most, low-most, target-most, readable
 pub mod Kept
 -- the texts have room: listing-fits, refusal-fits
 pub mod Room

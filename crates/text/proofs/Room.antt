@@ -1,22 +1,23 @@
 -- How long the texts are at most: a heading 34 bytes, a copy's line 13 and 5 for each target, a refusal 14.
--- Rests on base Lists, formats Listing, digits Spaced, Decimals and Room, specs Texts, Lines, Kept.
-use mathlib.Core.Path.{refl}
-use mathlib.Core.List.{List, [], _∷_, List·Memᴰ, List·Memᴰ·head, List·Memᴰ·tail, Memᴰ·of-map}
+-- Rests on base Lists, formats Listing and RuleRead, digits Spaced, Decimals and Room, specs Texts, Lines, Kept.
+use mathlib.Core.Path.{_≡_, refl, ap}
+use mathlib.Core.List.{List, [], _∷_, List·Memᴰ, List·Memᴰ·head, List·Memᴰ·tail}
 use Prim.Native.Nat.{ℕ, _+_, _*_, _≤_, _<_}
 use native.Mathlib.Omega.{arith}
 use lib.ListN.{length, length-append, length-map}
 use Rattle.base.specs.Lists.{each, from}
 use Rattle.base.proofs.Lists.{from-e, from-length}
-use Rattle.formats.specs.Limits.{mostCopies}
-use Rattle.formats.specs.BoundedSheet.{Heading, blockAt, lowAt, targetAt, chainAt, targetsAt}
-use Rattle.formats.specs.Rule11.{Ruled}
+use Rattle.formats.specs.Limits.{mostBudget, mostCopies}
+use Rattle.formats.specs.BoundedSheet.{Heading, heading, blockAt, lowAt, targetAt, chainAt, targetsAt}
+use Rattle.formats.specs.Rule11.{boundedRefusal, Ruled}
 use Rattle.formats.specs.Listing.{refusalOf}
+use Rattle.formats.proofs.RuleRead.{clauses, read-ruled}
 use Rattle.digits.specs.Spaced.{spaced}
 use Rattle.text.specs.Texts.{listingRoom, refusalRoom, copiesText, edgesText, budgetText, headingText, lineAt, copyLines}
 use Rattle.digits.proofs.Decimals.{digits-4}
 use Rattle.digits.proofs.Room.{spaced-3, spaced-4, spaced-5, each-room}
 use Rattle.text.proofs.Lines.{refusedText, heading-length, copy-length, refusal-length}
-use Rattle.text.proofs.Kept.{Kept, all-edges, block-inside, low-most, target-most}
+use Rattle.text.proofs.Kept.{all-edges, block-most, low-most, target-most}
 
 targets-room : (ts : List ℕ) → ((t : ℕ) → List·Memᴰ t ts → t ≤ mostCopies) → length (each spaced ts) ≤ 5 * length ts
 targets-room ts f = each-room spaced 5 ts (λ t m. spaced-4 t (omega (arith, f t m)))
@@ -40,10 +41,7 @@ pub refusal-fits : (n : ℕ) → n < 100000 → length (refusalOf n) ≤ refusal
 refusal-fits n l =
     omega (arith, refusal-length n, length-append refusedText (spaced n), spaced-5 n l)
 
-module _ (h : Heading) (s : List ℕ) (K : Kept h s) where
-  R : Ruled h s
-  R = K .ruled
-
+module _ (h : Heading) (s : List ℕ) (R : Ruled h s) (most : h .budget ≤ mostBudget) where
   heading-room : length (headingText (h .copies) (h .edges) (h .budget)) ≤ 34
   heading-room =
       let c = R .form .copies .1 in
@@ -56,37 +54,37 @@ module _ (h : Heading) (s : List ℕ) (K : Kept h s) where
         length-append budgetText (spaced (h .budget)),
         spaced-4 (h .copies) (omega arith),
         spaced-4 (h .edges) (omega arith),
-        spaced-3 (h .budget) (omega (arith, K .budget)),
+        spaced-3 (h .budget) (omega arith),
       )
 
   copy-room : (i : ℕ) → 1 ≤ i → i ≤ h .copies → length (lineAt s (h .records) (h .copies) (h .edges) i) ≤ 13 + 5 * length (chainAt h s i)
   unfolding targetsAt chainAt
   copy-room i p q =
       let c = R .form .copies .1 in
-      let v = block-inside h s R i p q .1 in
+      let v = block-most h s R i p q in
       let a = low-most h s R i p q in
       omega (
         arith,
         copy-length i (blockAt h s i) (lowAt h s i) (targetsAt h s i),
         digits-4 i (omega arith),
         spaced-3 (blockAt h s i) (omega arith),
-        spaced-3 (lowAt h s i) (omega (arith, K .budget)),
-        targets-room (targetsAt h s i) small,
+        spaced-3 (lowAt h s i) (omega arith),
+        targets-room (targetsAt h s i) (target-most h s R i p q),
         length-map (chainAt h s i) (targetAt h s),
       )
-    where
-      small : (t : ℕ) → List·Memᴰ t (targetsAt h s i) → t ≤ mostCopies
-      small t m =
-          let e = Memᴰ·of-map (targetAt h s) (chainAt h s i) m in
-          omega (arith, target-most h s R i p q (e .0) (e .1), e .2)
 
   -- the heading and the copies' lines together
-  pub listing-fits : length (headingText (h .copies) (h .edges) (h .budget)) + length (copyLines s (h .records) (h .copies) (h .edges))
-      ≤ listingRoom
-  listing-fits =
+  all-fit : length (headingText (h .copies) (h .edges) (h .budget)) + length (copyLines s (h .records) (h .copies) (h .edges)) ≤ listingRoom
+  all-fit =
       let is = from 1 (h .copies) in
       let c = R .form .copies .1 in
       let f = R .form .edges .1 in
       let r = lines-room (lineAt s (h .records) (h .copies) (h .edges)) (chainAt h s) is
       (λ i m. let b = from-e (h .copies) 1 i m in copy-room i (b .0) (omega arith)) in
       omega (arith, heading-room, r, from-length (h .copies) 1, all-edges h s R)
+
+-- behind what the header was read as
+pub listing-fits : (s : List ℕ) → boundedRefusal s ≡ 0 → {h : Heading} → h ≡ heading s
+    → length (headingText (h .copies) (h .edges) (h .budget)) + length (copyLines s (h .records) (h .copies) (h .edges)) ≤ listingRoom
+listing-fits s ok {h} q =
+    all-fit h s (read-ruled s ok q) (omega (arith, ap (λ (x : Heading). x .budget) q, clauses s ok .budget))

@@ -1,5 +1,5 @@
 -- Of the blocks 1 to n, those that kept their marks are the unused ones.
--- Rests on base Lists, formats Limits, BoundedSheet, Rule11 and Report, text Kept, specs Marks.
+-- Rests on base Lists, formats Limits, BoundedSheet, Rule11, RuleRead and Report, specs Marks.
 use mathlib.Core.Path.{_≡_, refl, ap, subst, _∙_}
 use mathlib.Core.Bool.{Bool, true, false, _&&_, not}
 use mathlib.Core.List.{List, [], _∷_}
@@ -7,11 +7,13 @@ use Prim.Native.Nat.{ℕ, zero, suc, _+_, _≤_, _<_}
 use native.Mathlib.Omega.{arith}
 use borrow.Author.Tests.{le-leb, lt-leb}
 use Rattle.base.specs.Lists.{keep, from, member}
+use Rattle.base.proofs.Lists.{from-i}
 use Rattle.formats.specs.Limits.{mostBlocks}
-use Rattle.formats.specs.BoundedSheet.{Heading, heading}
+use Rattle.formats.specs.BoundedSheet.{Heading, heading, copyAt}
 use Rattle.formats.specs.Rule11.{Ruled}
 use Rattle.formats.specs.Report.{copyBlocks, unusedBlocks}
-use Rattle.text.proofs.Kept.{block-inside}
+use Rattle.formats.proofs.RuleWords.{rowAt}
+use Rattle.formats.proofs.RuleRead.{row-fits}
 use Rattle.unused.specs.Marks.{marked, markedBlocks, First, Unmarked, blocksAt, Blocks}
 
 -- a test that fails from a + n on keeps what another keeps of the n numbers before
@@ -53,7 +55,11 @@ module _ (n : ℕ) (t : List ℕ) {old new : List ℕ} (F : First n old) (U : Un
 
 -- rule 11 gives blocks that have marks
 pub blocks-kept : (h : Heading) (t : List ℕ) → Ruled h t → Blocks t (h .records) (h .copies)
-blocks-kept h t R = record { size = omega (arith, R .form .size); inside = block-inside h t R }
+unfolding rowAt copyAt
+blocks-kept h t R = record {
+  size = omega (arith, R .form .size);
+  inside = λ i p q. row-fits h t R i (from-i (h .copies) 1 i p (omega arith)) .block;
+}
 
 pub blocks-read : (t : List ℕ) {old new : List ℕ} {g : Heading} → g ≡ heading t → Unmarked (blocksAt t (g .records) (g .copies)) old new
     → Unmarked (copyBlocks t) old new

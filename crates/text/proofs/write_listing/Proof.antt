@@ -1,41 +1,41 @@
 -- The heading, then the copies' lines.
--- Rests on Due, Lines, Kept and Room.
+-- Rests on formats RuleRead, Due, Lines, Kept and Room.
 use mathlib.Core.Path.{sym}
 use native.Mathlib.Omega.{arith}
 use borrow.Author.Needs.{needs}
+use Rattle.formats.proofs.RuleRead.{clauses, read-ruled}
 use Rattle.digits.proofs.Due.{wrote-as, wrote-then}
-use Rattle.text.proofs.Kept.{kept, kept-read, readable}
+use Rattle.text.proofs.Kept.{readable}
 use Rattle.text.proofs.Lines.{listing-is}
 use Rattle.text.proofs.Room.{listing-fits}
 use Rattle.text.proofs.write_listing.Statement.{statement}
 use Rattle.text.proofs.write_listing.Tie as tie
 
 read-heading-requires : tie.Need-read-heading-requires
-read-heading-requires c κs = kept _ (c .before .before .pre .0) .long
+read-heading-requires c κs = clauses _ (c .before .before .pre .0) .long
 
 write-heading-requires : tie.Need-write-heading-requires
 write-heading-requires c κs =
     let z = c .before .before .before .before in
-    omega (arith, listing-fits _ _ (kept-read (c .before .read-heading .ensures .0) (z .pre .0)))
+    omega (arith, listing-fits _ (z .pre .0) (c .before .read-heading .ensures .0))
 
 write-copies-requires : tie.Need-write-copies-requires
 write-copies-requires c κs =
     let put = c .before .before .before .write-heading in
     let h = c .before .before .before .before .before in
-    let z = h .before .before .before in
-    let K = kept-read (h .read-heading .ensures .0) (z .pre .0) in
-    (readable _ _ (K .ruled), omega (arith, put .ensures .is-end, put .kept .0, listing-fits _ _ K))
+    let q = h .read-heading .ensures .0 in
+    let ok = h .before .before .before .pre .0 in
+    (readable _ _ (read-ruled _ ok q), omega (arith, put .ensures .is-end, put .kept .0, listing-fits _ ok q))
 
 returns : tie.Need-returns
 returns c =
     let lines = c .before .before .write-copies in
     let first = c .before .before .before .before .before .before in
     let h = first .before .before in
-    let z = h .before .before .before in
-    let K = kept-read (h .read-heading .ensures .0) (z .pre .0) in
-    let W = wrote-then (first .write-heading .ensures) (lines .ensures) in (
-      wrote-as W (sym (listing-is _ (h .read-heading .ensures .0))),
-      omega (arith, lines .ensures .is-end, first .write-heading .ensures .is-end, lines .kept .1 .0, first .write-heading .kept .0, listing-fits _ _ K),
+    let q = h .read-heading .ensures .0 in
+    let fits = listing-fits _ (h .before .before .before .pre .0) q in (
+      wrote-as (wrote-then (first .write-heading .ensures) (lines .ensures)) (sym (listing-is _ q)),
+      omega (arith, lines .ensures .is-end, first .write-heading .ensures .is-end, lines .kept .1 .0, first .write-heading .kept .0, fits),
     )
 
 pub write-listing-spec : {M : Type 1} → statement M
