@@ -255,17 +255,6 @@ fn build_large(s: &[u16], area: &mut [u8], out: &mut [u16]) -> u16
 
 // THE CALL
 
-// Whether middling rows may be too small for n blocks and the budget b.
-fn is_large(n: usize, b: usize) -> bool
-    requires { ⌜ b < wordLimit ⌝ }
-    ensures { λ r. ⌜ (r ≡ false → (n ≤ 32) × (cellCount n b ≤ 2048)) ⌝ }
-{
-    if SOME_BLOCKS < n {
-        return true;
-    }
-    SOME_CELLS < n * (b + 1)
-}
-
 // Whether a sheet is small.
 fn is_small(n: usize, m: usize, cells: usize) -> bool
     ensures { λ r. ⌜ (r ≡ true → (n ≤ 8) × (m ≤ 32) × (cells ≤ 128)) ⌝ }
@@ -333,8 +322,11 @@ pub fn build(s: &[u16], area: &mut [u8], out: &mut [u16]) -> u16
         return build_little(s, area, out);
     }
     let h = read_header(s);
+    if SOME_BLOCKS < h.blocks {
+        return build_any(s, area, out);
+    }
     let b = budget(s);
-    if is_large(h.blocks, b) {
+    if SOME_CELLS < h.blocks * (b + 1) {
         return build_any(s, area, out);
     }
     build_little(s, area, out)
