@@ -1,6 +1,6 @@
 -- What the steps of a build hand on: marked copies cover their blocks' costs, rows of zeros are clear, a decoded sheet's task.
 -- Rests on theory Reach and Completions, graph_row Setting, formats Accepted, calls Area, specs Within.
-use mathlib.Core.Path.{_≡_, refl, sym, ap, subst, _∙_}
+use mathlib.Core.Path.{_≡_, refl, sym, ap, ap₂, subst, _∙_}
 use mathlib.Core.Bool.{Bool, true, false}
 use mathlib.Core.List.{List, List·Memᴰ}
 use mathlib.Core.Option.{some}
@@ -20,7 +20,7 @@ use Rattle.theory.specs.Copies.{candidates}
 use Rattle.theory.proofs.Completions.{covers}
 use Rattle.theory.proofs.Reach.{copy-sound, candidate}
 use Rattle.formats.specs.Limits.{mostBlocks, mostBudget, mostCells}
-use Rattle.formats.specs.GraphSheet.{header, budgetIn}
+use Rattle.formats.specs.GraphSheet.{Header, header, budgetIn}
 use Rattle.formats.proofs.Accepted.{accepted}
 use Rattle.calls.specs.SheetGraph.{task, graph, graphAt}
 use Rattle.calls.specs.Area.{filled, Table}
@@ -61,6 +61,11 @@ zeros-clear n i = go n i
     go zero i = refl
     go (suc n) zero = refl
     go (suc n) (suc i) = go n i
+
+-- the cells that were counted
+pub cells-are : (w : List ℕ) {h : Header} {b x : ℕ} → h ≡ header w → b ≡ budgetIn w → x ≡ cellCount (h .blocks) b
+    → x ≡ cellCount (header w .blocks) (budgetIn w)
+cells-are w p q e = e ∙ ap₂ cellCount (ap (λ (h : Header). h .blocks) p) q
 
 -- any sheet is within these
 pub any-sheet : (w area : List ℕ) → Passes w area → Within 128 512 64128 w

@@ -171,7 +171,7 @@ fn build_in_rows(
 
 // IN LOCAL ROWS, as large as the sheet asks
 
-// The sizes of the rows of a small build, and of a middling one.
+// The sizes of the rows of a small build, of a middling one, and of one with many blocks but not the most cells.
 const FEW_BLOCKS: usize = 8;
 
 const FEW_EDGES: usize = 32;
@@ -181,6 +181,8 @@ const FEW_CELLS: usize = 128;
 const SOME_BLOCKS: usize = 32;
 
 const SOME_CELLS: usize = 2048;
+
+const MANY_CELLS: usize = 16384;
 
 // For a small sheet.
 fn build_small(s: &[u16], area: &mut [u8], out: &mut [u16]) -> u16
@@ -225,6 +227,30 @@ fn build_middling(s: &[u16], area: &mut [u8], out: &mut [u16]) -> u16
         &mut row,
         &mut lists,
         SOME_BLOCKS - 1,
+        &mut table,
+        &mut marks,
+    )
+}
+
+// For a sheet of any blocks and edges and many cells.
+fn build_wide(s: &[u16], area: &mut [u8], out: &mut [u16]) -> u16
+    requires { ⌜ Passes (now s) (now area) ⌝ }
+    requires { ⌜ Within 128 512 16384 (now s) ⌝ }
+    ensures { λ a. ⌜ a ≡ built (now (s .entry)) (now (area .entry)) (now (out .entry)) .answer ⌝ }
+    ensures { λ _. ⌜ now (area .exit) ≡ built (now (s .entry)) (now (area .entry)) (now (out .entry)) .area ⌝ }
+    ensures { λ _. ⌜ now (out .exit) ≡ built (now (s .entry)) (now (area .entry)) (now (out .entry)) .output ⌝ }
+{
+    let mut row = [0u16; ROW_WORDS];
+    let mut lists = [0u8; LISTS];
+    let mut table = [0u16; MANY_CELLS];
+    let mut marks = [0u8; MANY_CELLS];
+    build_in_rows(
+        s,
+        area,
+        out,
+        &mut row,
+        &mut lists,
+        MOST_BLOCKS - 1,
         &mut table,
         &mut marks,
     )
@@ -299,7 +325,23 @@ fn build_little(s: &[u16], area: &mut [u8], out: &mut [u16]) -> u16
     build_passed(s, area, out)
 }
 
-// The same in rows for any sheet.
+// The build of any sheet that passes 1 to 8 and 21.
+fn build_rest(s: &[u16], area: &mut [u8], out: &mut [u16]) -> u16
+    requires { ⌜ Passes (now s) (now area) ⌝ }
+    ensures { λ a. ⌜ a ≡ built (now (s .entry)) (now (area .entry)) (now (out .entry)) .answer ⌝ }
+    ensures { λ _. ⌜ now (area .exit) ≡ built (now (s .entry)) (now (area .entry)) (now (out .entry)) .area ⌝ }
+    ensures { λ _. ⌜ now (out .exit) ≡ built (now (s .entry)) (now (area .entry)) (now (out .entry)) .output ⌝ }
+{
+    let h = read_header(s);
+    let b = budget(s);
+    let cells = cell_count(h.blocks, b);
+    if cells <= MANY_CELLS {
+        return build_wide(s, area, out);
+    }
+    build_large(s, area, out)
+}
+
+// The build of any row.
 fn build_any(s: &[u16], area: &mut [u8], out: &mut [u16]) -> u16
     ensures { λ r. ⌜ r ≡ built (now (s .entry)) (now (area .entry)) (now (out .entry)) .answer ⌝ }
     ensures { λ _. ⌜ now (area .exit) ≡ built (now (s .entry)) (now (area .entry)) (now (out .entry)) .area ⌝ }
@@ -309,7 +351,7 @@ fn build_any(s: &[u16], area: &mut [u8], out: &mut [u16]) -> u16
     if a != 0 {
         return a;
     }
-    build_large(s, area, out)
+    build_rest(s, area, out)
 }
 
 // 1 to 8, 21, 9, 10, 22 in this order, else 0 and the bounded sheet in the first words of the output row; in rows as large as it asks.

@@ -1,13 +1,11 @@
 -- The header is read for the sizes.
--- Rests on formats Accepted.
+-- Rests on formats Accepted, Ready.
 use borrow.Author.Needs.{needs}
-use mathlib.Core.Path.{_≡_, ap, ap₂, _∙_}
-use mathlib.Core.List.{List}
-use Prim.Native.Nat.{ℕ}
+use mathlib.Core.Path.{ap}
 use native.Mathlib.Omega.{arith}
-use Rattle.base.specs.Cells.{cellCount}
-use Rattle.formats.specs.GraphSheet.{Header, header, budgetIn}
+use Rattle.formats.specs.GraphSheet.{Header}
 use Rattle.formats.proofs.Accepted.{accepted}
+use Rattle.build.proofs.Ready.{cells-are}
 use Rattle.build.proofs.build_passed.Statement.{statement}
 use Rattle.build.proofs.build_passed.Tie as tie
 
@@ -21,11 +19,6 @@ cell-count-requires : tie.Need-cell-count-requires
 cell-count-requires c κs =
     let A = accepted _ (c .before .before .before .before .before .pre .0 .ok) in
     (omega (arith, A .sound .form .blocks, ap (λ (h : Header). h .blocks) (c .before .read-header .ensures .0)), omega (arith, A .budget, c .budget .ensures .0))
-
--- the cells that were counted
-cells-are : (w : List ℕ) {h : Header} {b x : ℕ} → h ≡ header w → b ≡ budgetIn w → x ≡ cellCount (h .blocks) b
-    → x ≡ cellCount (header w .blocks) (budgetIn w)
-cells-are w p q e = e ∙ ap₂ cellCount (ap (λ (h : Header). h .blocks) p) q
 
 build-small-requires : tie.Need-build-small-requires
 build-small-requires c κs =

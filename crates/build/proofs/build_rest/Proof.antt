@@ -1,0 +1,42 @@
+-- The header is read for the cells.
+-- Rests on formats Accepted, Ready.
+use borrow.Author.Needs.{needs}
+use mathlib.Core.Path.{ap}
+use native.Mathlib.Omega.{arith}
+use Rattle.formats.specs.GraphSheet.{Header}
+use Rattle.formats.proofs.Accepted.{accepted}
+use Rattle.build.proofs.Ready.{any-sheet, cells-are}
+use Rattle.build.proofs.build_rest.Statement.{statement}
+use Rattle.build.proofs.build_rest.Tie as tie
+
+read-header-requires : tie.Need-read-header-requires
+read-header-requires c κs = accepted _ (c .before .before .before .pre .ok) .long
+
+budget-requires : tie.Need-budget-requires
+budget-requires c κs = accepted _ (c .before .before .before .before .pre .ok) .long
+
+cell-count-requires : tie.Need-cell-count-requires
+cell-count-requires c κs =
+    let A = accepted _ (c .before .before .before .before .before .pre .ok) in
+    (omega (arith, A .sound .form .blocks, ap (λ (h : Header). h .blocks) (c .before .read-header .ensures .0)), omega (arith, A .budget, c .budget .ensures .0))
+
+build-wide-requires : tie.Need-build-wide-requires
+build-wide-requires c κs =
+    let z = c .before .before .before .before .before .before .before .before .before in
+    let W = any-sheet (z .args .s .now) (z .args .area .now) (z .pre) in
+    let k = cells-are (z .args .s .now) (c .before .before .before .before .before .read-header .ensures .0) (c .before .before .before .before .budget .ensures .0) (c .before .before .before .cell-count .ensures .0) in
+    (z .pre, record { blocks = W .blocks; edges = W .edges; cells = omega (arith, k, c .before .before .if1 .taken) })
+
+returns : tie.Need-returns
+returns c = c .before .before .before .before .build-wide .ensures
+
+build-large-requires : tie.Need-build-large-requires
+build-large-requires c κs = c .before .before .before .before .before .before .before .before .before .pre
+
+returns-2 : tie.Need-returns-2
+returns-2 c = c .before .before .before .before .build-large .ensures
+
+pub build-rest-spec : {M : Type 1} → statement M
+build-rest-spec =
+    tie.close
+    (tie.spec read-header-requires budget-requires cell-count-requires build-wide-requires (λ c. search needs) (λ c. search needs) returns build-large-requires (λ c. search needs) (λ c. search needs) returns-2)
