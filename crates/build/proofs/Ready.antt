@@ -8,21 +8,21 @@ use Prim.Native.Nat.{ℕ, zero, suc, _+_, _*_, _≤_}
 use native.Mathlib.Omega.{arith}
 use native.Mathlib.Nat.{mul-le-mul}
 use lib.ListN.{length, getD, replicate}
-use Rattle.base.specs.Lists.{isNone, keep}
+use Rattle.base.specs.Lists.{isNone}
 use Rattle.base.specs.Cells.{cellCount}
-use Rattle.base.specs.Copy.{Copy, copyOf}
+use Rattle.base.specs.Copy.{copyOf}
 use Rattle.base.specs.Checks.{refused}
 use Rattle.base.proofs.Lists.{keep-i}
 use Rattle.base.proofs.Orders.{unrefused}
-use Rattle.theory.specs.Completions.{Graph, lowOf}
+use Rattle.theory.specs.Completions.{lowOf}
 use Rattle.theory.specs.Tasks.{Task, taskAt, copiesIn}
 use Rattle.theory.specs.Copies.{candidates}
 use Rattle.theory.proofs.Completions.{covers}
 use Rattle.theory.proofs.Reach.{copy-sound, candidate}
-use Rattle.formats.specs.Limits.{mostBlocks, mostBudget, mostCells}
+use Rattle.formats.specs.Limits.{mostBlocks, mostBudget}
 use Rattle.formats.specs.GraphSheet.{Header, header, budgetIn}
 use Rattle.formats.proofs.Accepted.{accepted}
-use Rattle.calls.specs.SheetGraph.{task, graph, graphAt}
+use Rattle.calls.specs.SheetGraph.{task, graph}
 use Rattle.calls.specs.Area.{filled, Table}
 use Rattle.calls.specs.Weigh.{taskArea, nothingFits, fitOrder, frontOrder}
 use Rattle.calls.proofs.Area.{filled-table}

@@ -10,7 +10,7 @@ ghost use Rattle.base.specs.Cells.{cellCount};
 ghost use Rattle.base.specs.Lists.{isNone};
 ghost use Rattle.theory.specs.Completions.{lowOf};
 ghost use Rattle.theory.specs.Tasks.{copiesIn};
-ghost use Rattle.formats.specs.Limits.{leastWords, mostBudget, mostCopies, mostBoundedEdges, wordLimit};
+ghost use Rattle.formats.specs.Limits.{leastWords, mostBudget, mostCopies, mostBoundedEdges};
 ghost use Rattle.formats.specs.GraphSheet.{header};
 ghost use Rattle.calls.specs.SheetGraph.{task, boundedFor};
 ghost use Rattle.calls.specs.Area.{Table};

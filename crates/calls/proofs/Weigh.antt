@@ -12,7 +12,6 @@ use lib.ListN.{length}
 use Rattle.base.specs.Lists.{all, isNone, from, member}
 use Rattle.base.specs.Checks.{Order, refused, over, numbersOf, numbersBefore}
 use Rattle.base.proofs.Truth.{not-both}
-use Rattle.base.proofs.Lists.{member-i, member-e}
 use Rattle.base.proofs.Orders.{Numbered, unrefused, passed, none-left, refused-member, append-e, append-passes, over-i, over-e, over-stops}
 use Rattle.theory.specs.Completions.{lowOf}
 use Rattle.formats.specs.GraphSheet.{budgetIn, header, sheetOrder, sheetRefusal}
@@ -35,13 +34,6 @@ some-low (some a) e = (a, refl)
 pub spared : (a : ℕ) → beforeWeighing a ≡ member a (from 1 8 ++ (21 ∷ []))
 unfolding over numbersOf numbersBefore from sheetOrder frontOrder weighOrder beforeWeighing
 spared a = refl
-
--- those of a sheet are
-pub sheet-early : (w : List ℕ) → (sheetRefusal w ≡ 0 → ⊥) → beforeWeighing (sheetRefusal w) ≡ true
-unfolding sheetRefusal sheetOrder numbersOf from
-sheet-early w n =
-    let m = member-e (sheetRefusal w) (from 1 8) (refused-member sheetOrder w n) in
-    spared (sheetRefusal w) ∙ member-i (Memᴰ·append-left (21 ∷ []) m)
 
 -- the area under any other answer is filled
 pub late-area : (w area : List ℕ) (a : ℕ) → beforeWeighing a ≡ false

@@ -13,7 +13,7 @@ use Rattle.base.proofs.Orders.{pick, tested, none-left, unrefused, append-stops
 use Rattle.base.proofs.Search.{not-all}
 use Rattle.formats.specs.Limits.{leastWords, leastBlocks, mostBlocks, leastEdges, mostEdges}
 use Rattle.formats.specs.Words.{field}
-use Rattle.formats.specs.GraphSheet.{Header, headerOf, header, costWord, targetWord, edgesAt, short, badCounts, badLength, badBudget}
+use Rattle.formats.specs.GraphSheet.{Header, headerOf, header, costWord, targetWord, short, badCounts, badLength, badBudget}
 use Rattle.formats.specs.GraphSheet.{costFits, badCosts, badTargets, badChains, exitChain, Formed}
 use Rattle.formats.specs.GraphSheet.{lengthOrder, countsOrder, sizeOrder, budgetOrder, costOrder, edgeOrder, sheetOrder, sheetRefusal}
 use Rattle.formats.proofs.Accepted.{formed, cost-word}

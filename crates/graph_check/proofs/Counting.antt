@@ -7,7 +7,7 @@ use Prim.Native.Nat.{ℕ, zero, suc}
 use native.Mathlib.Omega.{arith}
 use Rattle.base.specs.Lists.{all}
 use Rattle.base.specs.Checks.{refused, over, outside}
-use Rattle.base.proofs.Orders.{none-left, inside-of, pick, tested, append-stops, append-passes, over-is}
+use Rattle.base.proofs.Orders.{none-left, pick, tested, append-stops, append-passes, over-is}
 use Rattle.formats.specs.GraphSheet.{Header, header, successorCount, sheetOrder, sheetRefusal}
 use Rattle.formats.specs.GraphSheet.{BlockOf, countOrder, countSuccessors}
 

@@ -44,9 +44,6 @@ module _ (row : List ℕ) (v : ℕ) (p : 1 ≤ v) (q : v ≤ blocksIn row) where
         drop-cons (graphIn row .next v) i 0 (omega (arith, next-length F))
         ∙ ap (λ (t : ℕ). t ∷ drop (suc i) (graphIn row .next v)) target-is
 
-    -- it is a successor, and so a block other than the start
+    -- it is a successor
     pub target-mem : List·Memᴰ (getD row (startIn row v + i) 0) (graphIn row .next v)
     target-mem = drop-mem i (graphIn row .next v) (subst (List·Memᴰ (getD row (startIn row v + i) 0)) (sym next-from) (List·Memᴰ·head refl))
-
-    pub target-block : (2 ≤ getD row (startIn row v + i) 0) × (getD row (startIn row v + i) 0 ≤ blocksIn row)
-    target-block = (F .laws .above v _ target-mem, F .inside v _ target-mem)

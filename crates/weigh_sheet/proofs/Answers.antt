@@ -9,14 +9,14 @@ use native.Mathlib.Nat.{mul-le-mul}
 use native.Mathlib.Numerals.{add-one}
 use borrow.Author.Tests.{lt-ltb, le-ltb}
 use lib.ListN.{length}
-use Rattle.base.specs.Lists.{any, all, isNone, from, member, optionOf}
+use Rattle.base.specs.Lists.{any, isNone, from, member, optionOf}
 use Rattle.base.specs.Cells.{cellOf, cellCount}
-use Rattle.base.specs.Checks.{refused, over}
+use Rattle.base.specs.Checks.{refused}
 use Rattle.base.proofs.Options.{option-none, option-some}
-use Rattle.base.proofs.Orders.{pick, tested, none-left, append-stops, append-passes, over-is, over-passes, over-stops}
-use Rattle.theory.specs.Completions.{Graph, lowOf}
+use Rattle.base.proofs.Orders.{pick, tested, none-left, append-stops, append-passes, over-passes, over-stops}
+use Rattle.theory.specs.Completions.{lowOf}
 use Rattle.formats.specs.Limits.{mostBlocks, mostBudget}
-use Rattle.formats.specs.GraphSheet.{Header, headerOf, header, budgetIn, sheetOrder, sheetRefusal}
+use Rattle.formats.specs.GraphSheet.{header, budgetIn, sheetOrder, sheetRefusal}
 use Rattle.formats.proofs.Accepted.{accepted, graph-numbered}
 use Rattle.calls.specs.SheetGraph.{task, graph}
 use Rattle.calls.specs.Area.{areaSize, filled, HasCell, Table}

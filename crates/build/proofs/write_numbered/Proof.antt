@@ -5,11 +5,8 @@ use mathlib.Core.Path.{refl}
 use Prim.Native.Nat.{_≤_, _<_}
 use native.Mathlib.Omega.{arith}
 use lib.ListN.{length}
-use Rattle.formats.specs.Limits.{mostCopies, mostBoundedEdges}
-use Rattle.theory.specs.Tasks.{copiesIn}
 use Rattle.calls.specs.SheetGraph.{boundedFor}
-use Rattle.tables.specs.Rows.{edgesOf}
-use Rattle.graph_row.specs.GraphRow.{graphIn, taskIn}
+use Rattle.graph_row.specs.GraphRow.{taskIn}
 use Rattle.build.specs.Within.{outputAt}
 use Rattle.build.proofs.Answers.{sheet-length, many-copies, short-row, long-row}
 use Rattle.build.proofs.write_numbered.Statement.{statement}

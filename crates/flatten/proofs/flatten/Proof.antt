@@ -7,7 +7,7 @@ use Prim.Native.Nat.{ℕ, suc, _+_, _-_, _≤_}
 use native.Mathlib.Omega.{arith}
 use lib.ListN.{length, length-set}
 use Rattle.formats.specs.Words.{field}
-use Rattle.formats.specs.GraphSheet.{Header, headerOf, Sound}
+use Rattle.formats.specs.GraphSheet.{Header, headerOf}
 use Rattle.formats.proofs.Accepted.{cost-word, chain-inside}
 use Rattle.calls.specs.SheetGraph.{graphAt}
 use Rattle.flatten.proofs.Places.{targets-are}

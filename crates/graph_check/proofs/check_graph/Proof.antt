@@ -4,7 +4,7 @@ use borrow.Author.Needs.{needs}
 use mathlib.Core.Path.{_≡_, sym, subst, _∙_}
 use Prim.Native.Nat.{ℕ}
 use mathlib.Core.List.{List}
-use Rattle.formats.specs.GraphSheet.{Header, headerOf, header, Formed}
+use Rattle.formats.specs.GraphSheet.{Header, header, Formed}
 use Rattle.graph_check.proofs.Conditions.{form-refuses, form-passes, form-long, form-formed, cost-refuses, cost-passes}
 use Rattle.graph_check.proofs.check_graph.Statement.{statement}
 use Rattle.graph_check.proofs.check_graph.Tie as tie

@@ -6,7 +6,7 @@ use mathlib.Core.List.{List}
 use Prim.Native.Nat.{ℕ}
 use native.Mathlib.Omega.{arith}
 use Rattle.base.proofs.Orders.{inside-of}
-use Rattle.formats.specs.GraphSheet.{Header, header, Sound}
+use Rattle.formats.specs.GraphSheet.{Header, Sound}
 use Rattle.formats.proofs.Accepted.{accepted}
 use Rattle.graph_check.proofs.Counting.{sheet-refused, block-refused, counted}
 use Rattle.graph_check.proofs.count_successors.Statement.{statement}

@@ -5,9 +5,8 @@ use mathlib.Core.Path.{_≡_, sym, ap, subst, _∙_}
 use mathlib.Core.List.{List}
 use Prim.Native.Nat.{ℕ, _+_, _*_, _≤_}
 use native.Mathlib.Omega.{arith}
-use Rattle.formats.specs.GraphSheet.{Header, header, Sound}
+use Rattle.formats.specs.GraphSheet.{Header, Sound}
 use Rattle.formats.proofs.Accepted.{accepted}
-use Rattle.flatten.specs.Decoded.{Decoded}
 use Rattle.weigh_sheet.proofs.decode.Statement.{statement}
 use Rattle.weigh_sheet.proofs.decode.Tie as tie
 
