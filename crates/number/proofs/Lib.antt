@@ -1,6 +1,6 @@
 -- The laws of the numbers of the marked copies.
--- Rests on base, theory, calls, tables.
--- an entry by the one before it: entry-yes, entry-no, before-none, before-some, next-no, next-yes, next-none
-pub mod Entries
--- the numbers, cell by cell: state-start, here-start, going-on, going-end
+-- Rests on base, theory, tables.
+-- the numbers, copy by copy: numbering-start, numbering-on, numbering-end
 pub mod Numbering
+-- what is looked up is the number of the copy that serves the cycles left: number-is, and the ways to it
+pub mod Looking

@@ -1,4 +1,4 @@
 -- What the contracts below the public calls cite.
--- Rests on nothing.
--- an entry of the numbers by the entry before it
-pub mod Entries
+-- Rests on base, tables.
+-- a number as it is looked up
+pub mod Numbers

@@ -3,11 +3,12 @@
 use mathlib.Core.Path.{_≡_, sym, ap, ap₂, subst, _∙_}
 use mathlib.Core.List.{List, [], _∷_, _++_, map}
 use Prim.Native.Nat.{ℕ, zero, suc, _+_, _-_, _*_, _≤_, _<_, _/_, _%_}
-use native.Mathlib.Nat.{suc-mul, mul-le-mul, mul-le-mul-right, div-add-mod', mod-lt, mod-eq-of-lt, mod-self}
+use native.Mathlib.Nat.{suc-mul, mul-le-mul, mul-le-mul-right, div-add-mod', mod-lt}
 use native.Mathlib.Omega.{arith}
-use native.Mathlib.Decide.{ℕ-discrete, decLe}
+use native.Mathlib.Decide.{ℕ-discrete, decLe, decLt}
 use native.Mathlib.Numerals.{add-one}
 use lib.ListN.{length, getD, drop, length-map}
+use lib.Bits.{bitOr, or-add-and, and-le-l, and-le-r}
 use lib.Seq.{drop-append-le, drop-append-add}
 use Rattle.base.specs.Lists.{each, from}
 use Rattle.base.specs.Copy.{Copy, copyOf}
@@ -15,7 +16,7 @@ use Rattle.base.proofs.Lists.{from-length}
 use Rattle.theory.specs.Copies.{candidates}
 use Rattle.formats.specs.Limits.{mostBlocks, mostBudget, mostCells}
 use Rattle.base.specs.Cells.{cellOf, cellCount}
-use Rattle.tables.specs.Scan.{IsCell}
+use Rattle.tables.specs.Scan.{IsCell, ClearFrom}
 
 -- THE CANDIDATES, line by line
 
@@ -94,30 +95,6 @@ code-cell b i =
     subst (λ (k : ℕ). IsCell b i (i / k + 1) (i % k)) (sym (add-one b))
     (record { block = omega arith; low = omega arith; place = rw z (sym (div-add-mod' i (suc b))) })
 
--- THE NEXT CELL: that of the next low, or, behind the last low, that of the next block
-pub first-cell : (b : ℕ) → IsCell b 0 1 0
-unfolding cellOf
-first-cell b = record { block = omega arith; low = omega arith; place = omega arith }
-
-module _ (b i v r : ℕ) (C : IsCell b i v r) where
-  pub next-low : r < b → IsCell b (i + 1) v (suc r)
-  unfolding cellOf
-  next-low h = record { block = C .block; low = omega arith; place = omega (arith, C .place) }
-
-  pub next-block : r ≡ b → IsCell b (i + 1) (suc v) 0
-  unfolding cellOf
-  next-block h =
-      let z : suc v - 1 ≡ suc (v - 1) = omega (arith, C .block) in
-      record { block = omega arith; low = omega arith; place = rw z (omega (arith, C .place, suc-mul (v - 1) (suc b))) }
-
--- its low, as the code computes it
-module _ (b r : ℕ) where
-  pub low-same : r < b → (r + 1) % (b + 1) ≡ suc r
-  low-same h = mod-eq-of-lt {n = r + 1} {m = b + 1} (omega arith) ∙ add-one r
-
-  pub low-last : r ≡ b → (r + 1) % (b + 1) ≡ 0
-  low-last e = rw e (mod-self (b + 1))
-
 -- a cell inside is that of a block
 pub cell-block : (n b i v l : ℕ) → IsCell b i v l → i < cellCount n b → v ≤ n
 unfolding cellOf cellCount
@@ -135,11 +112,67 @@ pub count-code : (n b : ℕ) → n * (b + 1) ≡ cellCount n b
 unfolding cellCount
 count-code n b = rw add-one
 
--- CELLS THAT ARE CLEAR, one more
-pub clear-more : (m : List ℕ) (i j : ℕ) → ((x : ℕ) → i ≤ x → x < j → getD m x 0 ≡ 0) → getD m j 0 ≡ 0
-    → (x : ℕ) → i ≤ x → x < j + 1 → getD m x 0 ≡ 0
-clear-more m i j h e x p q = go (ℕ-discrete x j)
+-- CELLS THAT ARE CLEAR: none, one more, those of two stretches, eight whose bits together are 0
+pub clear-none : (m : List ℕ) (i : ℕ) → ClearFrom m i i
+unfolding ClearFrom
+clear-none m i x p q = absurd (omega arith)
+
+module _ (m : List ℕ) where
+  pub clear-more : (i j : ℕ) → ClearFrom m i j → getD m j 0 ≡ 0 → ClearFrom m i (j + 1)
+  unfolding ClearFrom
+  clear-more i j h e x p q = go (ℕ-discrete x j)
+    where
+      go : Dec (x ≡ j) → getD m x 0 ≡ 0
+      go (yes z) = ap (λ (k : ℕ). getD m k 0) z ∙ e
+      go (no n) = h x p (omega arith)
+
+  pub clear-both : (i j k : ℕ) → ClearFrom m i j → ClearFrom m j k → ClearFrom m i k
+  unfolding ClearFrom
+  clear-both i j k g h x p q = go (decLt x j)
+    where
+      go : Dec (x < j) → getD m x 0 ≡ 0
+      go (yes l) = g x p l
+      go (no l) = h x (omega arith) q
+
+-- no bits together, none in either
+pub or-none : (a b : ℕ) → bitOr a b ≡ 0 → (a ≡ 0) × (b ≡ 0)
+or-none a b e =
+    let s = or-add-and a b in
+    (omega (arith, s, and-le-r a b), omega (arith, s, and-le-l a b))
+
+abbrev Zero : List ℕ → ℕ → Type 0
+Zero m i = getD m i 0 ≡ 0
+
+abbrev bits : (a b c d : ℕ) → ℕ
+bits a b c d = bitOr (bitOr (bitOr a b) c) d
+
+pub clear-eight : (m : List ℕ) (j : ℕ)
+    → bitOr (bits (getD m j 0) (getD m (j + 1) 0) (getD m (j + 2) 0) (getD m (j + 3) 0))
+    (bits (getD m (j + 4) 0) (getD m (j + 5) 0) (getD m (j + 6) 0) (getD m (j + 7) 0)) ≡ 0
+    → ClearFrom m j (j + 8)
+unfolding ClearFrom
+clear-eight m j e x p q =
+    let s : x ≡ j + (x - j) = omega arith in
+    let h = or-none _ _ e in
+    let h₀ = four _ _ _ _ (h .0) in
+    let h₁ = four _ _ _ _ (h .1) in
+    ap (λ (i : ℕ). getD m i 0) s ∙ at h₀ h₁ (x - j) (omega arith)
   where
-    go : Dec (x ≡ j) → getD m x 0 ≡ 0
-    go (yes z) = ap (λ (k : ℕ). getD m k 0) z ∙ e
-    go (no n) = h x p (omega arith)
+    four : (a b c d : ℕ) → bits a b c d ≡ 0 → (a ≡ 0) × (b ≡ 0) × (c ≡ 0) × (d ≡ 0)
+    four a b c d e =
+        let p = or-none _ d e in
+        let q = or-none _ c (p .0) in
+        let r = or-none a b (q .0) in
+        (r .0, r .1, q .1, p .1)
+
+    at : Zero m j × Zero m (j + 1) × Zero m (j + 2) × Zero m (j + 3) → Zero m (j + 4) × Zero m (j + 5) × Zero m (j + 6) × Zero m (j + 7)
+        → (d : ℕ) → d < 8 → Zero m (j + d)
+    at u w zero l = let z : j + 0 ≡ j = omega arith in rw z (u .0)
+    at u w (suc zero) l = u .1
+    at u w (suc (suc zero)) l = u .2
+    at u w (suc (suc (suc zero))) l = u .3
+    at u w (suc (suc (suc (suc zero)))) l = w .0
+    at u w (suc (suc (suc (suc (suc zero))))) l = w .1
+    at u w (suc (suc (suc (suc (suc (suc zero)))))) l = w .2
+    at u w (suc (suc (suc (suc (suc (suc (suc zero))))))) l = w .3
+    at u w (suc (suc (suc (suc (suc (suc (suc (suc d)))))))) l = absurd (omega arith)

@@ -14,7 +14,7 @@ use Rattle.theory.specs.Copies.{candidates}
 use Rattle.formats.specs.Limits.{mostBlocks, mostBudget, mostCells}
 use Rattle.cells.specs.Cells.{Within}
 use Rattle.tables.specs.Tables.{marked, markedCopies}
-use Rattle.tables.specs.Scan.{IsCell, NextMarked}
+use Rattle.tables.specs.Scan.{IsCell, ClearFrom, NextMarked}
 use Rattle.tables.proofs.Places.{candidate-here, none-past, code-cell, cell-block}
 
 module _ {A : Type 0} (f : A → Bool) where
@@ -64,8 +64,8 @@ module _ (n b : ℕ) (marks : List ℕ) where
       rest-no e = ap (keep isCopy) candidate ∙ keep-no isCopy (copyOf v l) _ (mark-of ∙ e)
 
   -- over cells that are not set
-  skip : (k i r : ℕ) → r ≡ i + k → r ≤ cellCount n b → ((j : ℕ) → i ≤ j → j < r → getD marks j 0 ≡ 0) → rest i ≡ rest r
-  unfolding isSet
+  skip : (k i r : ℕ) → r ≡ i + k → r ≤ cellCount n b → ClearFrom marks i r → rest i ≡ rest r
+  unfolding isSet ClearFrom
   skip zero i r e l h = ap rest (omega arith)
   skip (suc k) i r e l h =
       rest-no i _ _ (code-cell b i) (omega arith) (ap not (eq-eqb _ _ (h i (omega arith) (omega arith))))
@@ -130,6 +130,7 @@ module _ {n b : ℕ} {marks : List ℕ} {size : ℕ} where
     at-here = rest-yes n b marks i v l C (omega (arith, S .cells)) here
 
     pub at-next : {r : ℕ} → NextMarked marks size (i + 1) r → AtCopy n b marks size r × (rest n b marks i ≡ copyOf v l ∷ rest n b marks r)
+    unfolding ClearFrom
     at-next {r} X =
         let e : r ≡ suc i + (r - suc i) = omega (arith, X .from) in (
           record { scan = S; upto = X .upto; set = X .set },

@@ -1,16 +1,13 @@
 -- An area that stands for a graph's completion costs is looked up as the graph itself.
 -- Rests on theory Completions, calls Area, specs Tables.
-use mathlib.Core.Path.{_≡_, ap, _∙_}
+use mathlib.Core.Path.{_≡_, _∙_}
 use mathlib.Core.List.{List}
-use mathlib.Core.Option.{Option, Option·map}
 use Prim.Native.Nat.{ℕ, _≤_}
 use native.Mathlib.Omega.{arith}
-use Rattle.base.specs.Copy.{Copy, copyOf}
 use Rattle.theory.specs.Completions.{Graph, lowOf}
-use Rattle.theory.specs.Copies.{targetNumber}
 use Rattle.theory.proofs.Completions.{largest-agree}
 use Rattle.calls.specs.Area.{Table}
-use Rattle.tables.specs.Tables.{lowIn, Lows, Numbers}
+use Rattle.tables.specs.Tables.{lowIn, Lows}
 
 module _ {g : Graph} {n b : ℕ} {area : List ℕ} (T : Table g n b area) where
   pub low-in : (v r : ℕ) → 1 ≤ v → v ≤ n → r ≤ b → lowIn b area v r ≡ lowOf g v r
@@ -19,9 +16,3 @@ module _ {g : Graph} {n b : ℕ} {area : List ℕ} (T : Table g n b area) where
 
   pub lows-of : {lows : List ℕ} → Lows (lowIn b area) n b lows → Lows (lowOf g) n b lows
   lows-of L = record { room = L .room; cells = λ v r p q l. L .cells v r p q l ∙ low-in v r p q l }
-
-  pub numbers-of : {cs : List Copy} {numbers : List ℕ} → Numbers (lowIn b area) n b cs numbers → Numbers (lowOf g) n b cs numbers
-  numbers-of {cs} N = record {
-    room = N .room;
-    cells = λ v r p q l. N .cells v r p q l ∙ ap (λ (o : Option ℕ). targetNumber cs (Option·map (copyOf v) o)) (low-in v r p q l);
-  }

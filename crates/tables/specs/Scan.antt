@@ -12,9 +12,13 @@ pub record IsCell (b i v l : ℕ) : Type 0 where
   pub low : l ≤ b
   pub place : i ≡ cellOf b v l
 
+-- the cells from i on are clear, those from j on left aside
+unfoldable pub ClearFrom : List ℕ → ℕ → ℕ → Type 0
+ClearFrom marks i j = (x : ℕ) → i ≤ x → x < j → getD marks x 0 ≡ 0
+
 -- r is the first marked cell from i on, or size where there is none
 pub record NextMarked (marks : List ℕ) (size i r : ℕ) : Type 0 where
   pub from : i ≤ r
   pub upto : r ≤ size
-  pub clear : (j : ℕ) → i ≤ j → j < r → getD marks j 0 ≡ 0
+  pub clear : ClearFrom marks i r
   pub set : r < size → getD marks r 0 ≡ 0 → ⊥

@@ -1,13 +1,14 @@
 // The entries of a build's own rows, placed as cells, and the cells of a row in order. Below the public calls.
 // Rests on cells.
 ghost use mathlib.Core.Path.{_≡_};
-ghost use Prim.Native.Nat.{_<_, _≤_};
+ghost use mathlib.Core.Bool.{true};
+ghost use Prim.Native.Nat.{_+_, _<_, _≤_};
 ghost use lib.ListN.{length, getD, set};
-ghost use Rattle.base.specs.Cells.{cellOf, cellCount, isSet};
+ghost use Rattle.base.specs.Cells.{cellOf, cellCount};
 ghost use Rattle.cells.specs.Cells.{Within};
 ghost use Rattle.formats.specs.Limits.{mostBlocks, mostBudget, mostCells};
 ghost use Rattle.tables.specs.Tables.{marked};
-ghost use Rattle.tables.specs.Scan.{IsCell, NextMarked};
+ghost use Rattle.tables.specs.Scan.{IsCell, ClearFrom, NextMarked};
 use cells::place;
 
 // The entry of v and r.
@@ -77,12 +78,37 @@ pub fn cell_at(b: usize, i: usize) -> Cell
     }
 }
 
+// Whether the eight cells from j on are clear. The compiler reads them at once.
+fn eight_clear(marks: &[u8], j: usize) -> bool
+    requires { ⌜ j + 8 ≤ length (now marks) ⌝ }
+    ensures { λ r. ⌜ (r ≡ true → ClearFrom (now (marks .entry)) j (j + 8)) ⌝ }
+{
+    let x = marks[j] | marks[j + 1] | marks[j + 2] | marks[j + 3];
+    let y = marks[j + 4] | marks[j + 5] | marks[j + 6] | marks[j + 7];
+    x | y == 0
+}
+
+// Goes on from i over clear cells, eight at a time.
+fn skip(marks: &[u8], size: usize, i: usize) -> usize
+    requires { ⌜ (i ≤ size) × (size ≤ length (now marks)) ⌝ }
+    ensures { λ r. ⌜ (i ≤ r) × (r ≤ size) × ClearFrom (now (marks .entry)) i r ⌝ }
+{
+    let mut j = i;
+    while 8 <= size - j {
+        if !eight_clear(marks, j) {
+            return j;
+        }
+        j += 8;
+    }
+    j
+}
+
 // The first marked cell from i on, size where there is none.
 pub fn next_marked(marks: &[u8], size: usize, i: usize) -> usize
     requires { ⌜ (i ≤ size) × (size ≤ length (now marks)) ⌝ }
     ensures { λ r. ⌜ NextMarked (now (marks .entry)) size i r ⌝ }
 {
-    let mut j = i;
+    let mut j = skip(marks, size, i);
     while j < size {
         if marks[j] != 0 {
             return j;
@@ -90,12 +116,4 @@ pub fn next_marked(marks: &[u8], size: usize, i: usize) -> usize
         j += 1;
     }
     size
-}
-
-// Whether the copy at i is marked.
-pub fn is_marked_at(marks: &[u8], i: usize) -> bool
-    requires { ⌜ i < length (now marks) ⌝ }
-    ensures { λ r. ⌜ r ≡ isSet (now (marks .entry)) i ⌝ }
-{
-    marks[i] != 0
 }

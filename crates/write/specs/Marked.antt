@@ -6,18 +6,18 @@ use mathlib.Core.List.{List}
 use Prim.Native.Nat.{ℕ, _≤_}
 use lib.ListN.{length}
 use Rattle.base.specs.Cells.{cellCount}
-use Rattle.theory.specs.Completions.{Graph}
+use Rattle.theory.specs.Completions.{Graph, completes}
 use Rattle.formats.specs.Limits.{mostBudget}
 use Rattle.formats.specs.BoundedSheet.{Row}
 use Rattle.calls.specs.SheetGraph.{rowsOf}
 use Rattle.tables.specs.Tables.{marked, markedCopies}
 use Rattle.graph_row.specs.GraphRow.{blocksIn, graphIn}
 
--- room for the marks; each marked copy's low covers the cost of its block
+-- room for the marks; each marked copy's low is a completion cost of its block
 pub record Marked (g : Graph) (n b : ℕ) (marks : List ℕ) : Type 0 where
   pub budget : b ≤ mostBudget
   pub room : cellCount n b ≤ length marks
-  pub covers : (v l : ℕ) → 1 ≤ v → v ≤ n → l ≤ b → marked b marks v l ≡ true → g .cost v ≤ l
+  pub serves : (v l : ℕ) → 1 ≤ v → v ≤ n → l ≤ b → marked b marks v l ≡ true → completes g v l ≡ true
 
 -- the rows of the marked copies of a graph row
 abbrev pub rowsIn : List ℕ → ℕ → List ℕ → List Row

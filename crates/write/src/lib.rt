@@ -1,5 +1,5 @@
 // The records of the bounded sheet, for the marked copies in order. Below the public calls.
-// Rests on graph_row, tables.
+// Rests on graph_row, tables, number.
 ghost use mathlib.Core.Path.{_≡_};
 ghost use mathlib.Core.List.{List, [], _∷_};
 ghost use Prim.Native.Nat.{ℕ, _+_, _-_, _*_, _<_, _≤_};
@@ -19,9 +19,9 @@ use graph_row::blocks_in;
 use graph_row::cost_in;
 use graph_row::degree_in;
 use graph_row::start_in;
+use number::number_of;
 use tables::cell_at;
 use tables::cell_count;
-use tables::entry;
 use tables::next_marked;
 use words::word_at;
 
@@ -78,10 +78,11 @@ fn write_copies(row: &[u16], marks: &[u8], out: &mut [u16], b: usize, at: usize)
     }
 }
 
-// Puts the edge records of the copy of v with the low l, among copies of these numbers, its edges numbered from e; they stand from the
+// Puts the edge records of the copy of v with the low l, among the marked copies, its edges numbered from e; they stand from the
 // word `at` on, so that edge e stands at `at` + 2 × (e − 1). The number behind its last edge.
 fn write_chain(
     row: &[u16],
+    marks: &[u8],
     numbers: &[u16],
     out: &mut [u16],
     b: usize,
@@ -91,14 +92,14 @@ fn write_chain(
     e: usize,
 ) -> usize
     requires { ⌜ Flat (now row) ⌝ }
-    requires { ⌜ (1 ≤ v) × (v ≤ blocksIn (now row)) × (graphIn (now row) .cost v ≤ l) × (l ≤ b) × (b ≤ mostBudget) ⌝ }
-    requires { ⌜ cellCount (blocksIn (now row)) b ≤ length (now numbers) ⌝ }
+    requires { ⌜ Marked (graphIn (now row)) (blocksIn (now row)) b (now marks) ⌝ }
+    requires { ⌜ Numbers (lowOf (graphIn (now row))) (blocksIn (now row)) b (now marks) (now numbers) ⌝ }
+    requires { ⌜ (1 ≤ v) × (v ≤ blocksIn (now row)) × (graphIn (now row) .cost v ≤ l) × (l ≤ b) ⌝ }
     requires { ⌜ (1 ≤ e) × (e + length (graphIn (now row) .next v) < wordLimit) ⌝ }
     requires { ⌜ at + 2 * (e + length (graphIn (now row) .next v)) ≤ length (now out) + 2 ⌝ }
     ensures { λ r. ⌜ r ≡ e + length (graphIn (now (row .entry)) .next v) ⌝ }
-    ensures { λ _. ⌜ ((cs : List Copy) → Numbers (lowOf (graphIn (now (row .entry)))) (blocksIn (now (row .entry))) b cs (now (numbers .entry))
-        → now (out .exit) ≡ putWords (now (out .entry)) (at + 2 * (e - 1))
-        (edgeRecords e (rowOf (graphIn (now (row .entry))) cs (copyOf v l) .targetWords))) ⌝ }
+    ensures { λ _. ⌜ now (out .exit) ≡ putWords (now (out .entry)) (at + 2 * (e - 1))
+        (edgeRecords e (rowOf (graphIn (now (row .entry))) (markedCopies (blocksIn (now (row .entry))) b (now (marks .entry))) (copyOf v l) .targetWords)) ⌝ }
 {
     let left = l - cost_in(row, v);
     let a = start_in(row, v);
@@ -106,7 +107,7 @@ fn write_chain(
     let mut i = 0;
     while i < d {
         let t = word_at(row, a + i);
-        let target = entry(numbers, b, t, left);
+        let target = number_of(marks, numbers, b, t, left);
         let n = e + i;
         i += 1;
         let next = first_edge(n + 1, d - i);
@@ -119,7 +120,7 @@ fn write_chain(
 fn write_edges(row: &[u16], marks: &[u8], numbers: &[u16], out: &mut [u16], b: usize, at: usize)
     requires { ⌜ Flat (now row) ⌝ }
     requires { ⌜ Marked (graphIn (now row)) (blocksIn (now row)) b (now marks) ⌝ }
-    requires { ⌜ Numbers (lowOf (graphIn (now row))) (blocksIn (now row)) b (markedCopies (blocksIn (now row)) b (now marks)) (now numbers) ⌝ }
+    requires { ⌜ Numbers (lowOf (graphIn (now row))) (blocksIn (now row)) b (now marks) (now numbers) ⌝ }
     requires { ⌜ edgesOf (graphIn (now row)) (markedCopies (blocksIn (now row)) b (now marks)) ≤ mostBoundedEdges ⌝ }
     requires { ⌜ at + 2 * edgesOf (graphIn (now row)) (markedCopies (blocksIn (now row)) b (now marks)) ≤ length (now out) ⌝ }
     ensures { λ _. ⌜ now (out .exit) ≡ putWords (now (out .entry)) at (edgeWords 1 (rowsIn (now (row .entry)) b (now (marks .entry)))) ⌝ }
@@ -130,7 +131,7 @@ fn write_edges(row: &[u16], marks: &[u8], numbers: &[u16], out: &mut [u16], b: u
     let mut i = next_marked(marks, size, 0);
     while i < size {
         let c = cell_at(b, i);
-        e = write_chain(row, numbers, out, b, c.block, c.low, at, e);
+        e = write_chain(row, marks, numbers, out, b, c.block, c.low, at, e);
         i = next_marked(marks, size, i + 1);
     }
 }
@@ -147,7 +148,7 @@ pub fn write_records(
 )
     requires { ⌜ Flat (now row) ⌝ }
     requires { ⌜ Marked (graphIn (now row)) (blocksIn (now row)) b (now marks) ⌝ }
-    requires { ⌜ Numbers (lowOf (graphIn (now row))) (blocksIn (now row)) b (markedCopies (blocksIn (now row)) b (now marks)) (now numbers) ⌝ }
+    requires { ⌜ Numbers (lowOf (graphIn (now row))) (blocksIn (now row)) b (now marks) (now numbers) ⌝ }
     requires { ⌜ (copies ≡ length (markedCopies (blocksIn (now row)) b (now marks))) × (copies ≤ mostCopies) ⌝ }
     requires { ⌜ edgesOf (graphIn (now row)) (markedCopies (blocksIn (now row)) b (now marks)) ≤ mostBoundedEdges ⌝ }
     requires { ⌜ at + length (recordWords (rowsIn (now row) b (now marks))) ≤ length (now out) ⌝ }

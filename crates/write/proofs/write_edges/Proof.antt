@@ -7,7 +7,7 @@ use borrow.Author.Needs.{needs}
 use Rattle.graph_row.specs.GraphRow.{blocksIn, graphIn}
 use Rattle.tables.proofs.Rest.{scan-room, cell-fits, at-copy}
 use Rattle.write.specs.Put.{putWords}
-use Rattle.write.proofs.Chain.{place}
+use Rattle.write.proofs.Chain.{place, low-covers}
 use Rattle.write.proofs.Records.{Written, scan-in, written-start, written-fits, written-on, written-end}
 use Rattle.write.proofs.Records.{edgeRecord, chains-are, edges-fit, edge-length}
 use Rattle.write.proofs.write_edges.Statement.{statement}
@@ -43,11 +43,17 @@ write-chain-requires c κs =
     let h = k .before .loop-test .taken in
     let F = cell-fits (W .here .scan) h (k .cell-at .ensures) in
     let f = written-fits edgeRecord W h (k .cell-at .ensures) in
-    let m = z .pre .1 .0 .covers _ _ (F .block .0) (F .block .1) (F .within .cost) (at-copy (W .here) h (k .cell-at .ensures)) in (
+    let m = low-covers (z .pre .0) (z .pre .1 .0) (F .block .0) (F .block .1) (F .within .cost) (at-copy (W .here) h (k .cell-at .ensures)) in (
       z .pre .0,
       (
-        (F .block .0, F .block .1, m, F .within .cost, F .within .budget),
-        (z .pre .1 .1 .0 .room, ((W .least, omega (arith, f .1)), omega (arith, f .0, W .least, edge-length W (k .cell-at .ensures)))),
+        z .pre .1 .0,
+        (
+          z .pre .1 .1 .0,
+          (
+            (F .block .0, F .block .1, m, F .within .cost),
+            ((W .least, omega (arith, f .1)), omega (arith, f .0, W .least, edge-length W (k .cell-at .ensures))),
+          ),
+        ),
       ),
     )
 
@@ -64,8 +70,7 @@ loop-again c =
     let e = p .write-chain .ensures in
     let k = p .before .before in
     let W = k .before .before .loop .inv in
-    let z = k .before .before .before .before .before .before .before .before .before .before in
-    written-on edgeRecord W (k .before .loop-test .taken) (k .cell-at .ensures) (c .next-marked2 .ensures) (e .1 _ (z .pre .1 .1 .0))
+    written-on edgeRecord W (k .before .loop-test .taken) (k .cell-at .ensures) (c .next-marked2 .ensures) (e .1)
     (omega (arith, e .0, W .least, edge-length W (k .cell-at .ensures))) (e .0)
 
 same-length : tie.Need-same-length Inv-loop μ-loop
