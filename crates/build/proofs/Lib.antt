@@ -1,6 +1,4 @@
--- 10, 22 and 0 by the counts: many-copies, many-edges, short-row, long-row
-pub mod Answers
--- a build behind the front and behind weighing: front-refused, nothing-fits, weighed
-pub mod Front
--- what is known of marked copies, of rows that are lent, and of a decoded sheet: served, rooms, ..
-pub mod Ready
+-- The laws of a build in local rows.
+-- Rests on base, formats, calls, weigh, descend, build_rows.
+-- local rows serve every sheet within their sizes: rows-serve, cells-are, any-sheet
+pub mod Local

@@ -1,11 +1,11 @@
 -- The header is read for the sizes.
--- Rests on formats Accepted, Ready.
+-- Rests on formats Accepted, Local.
 use borrow.Author.Needs.{needs}
 use mathlib.Core.Path.{ap}
 use native.Mathlib.Omega.{arith}
 use Rattle.formats.specs.GraphSheet.{Header}
 use Rattle.formats.proofs.Accepted.{accepted}
-use Rattle.build.proofs.Ready.{cells-are}
+use Rattle.build.proofs.Local.{cells-are}
 use Rattle.build.proofs.build_passed.Statement.{statement}
 use Rattle.build.proofs.build_passed.Tie as tie
 

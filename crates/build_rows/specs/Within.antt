@@ -3,12 +3,11 @@
 use mathlib.Core.Path.{_≡_}
 use mathlib.Core.Bool.{true, false}
 use mathlib.Core.List.{List, _++_}
-use Prim.Native.Nat.{ℕ, zero, suc, _+_, _*_, _≤_}
+use Prim.Native.Nat.{ℕ, zero, suc, _≤_}
 use lib.Dec.{ltb}
 use lib.ListN.{length, drop}
-use Rattle.base.specs.Cells.{cellCount}
 use Rattle.theory.specs.Tasks.{Task}
-use Rattle.formats.specs.GraphSheet.{header, sheetRefusal}
+use Rattle.formats.specs.GraphSheet.{sheetRefusal}
 use Rattle.formats.specs.BoundedSheet.{heading}
 use Rattle.calls.specs.SheetGraph.{task, boundedFor}
 use Rattle.calls.specs.Weigh.{taskArea}
@@ -32,14 +31,3 @@ built w area out = build (record { sheet = w; area = area; output = out })
 pub record Passes (w area : List ℕ) : Type 0 where
   pub ok : sheetRefusal w ≡ 0
   pub room : taskArea (task w) ≤ length area
-
--- a sheet of at most n blocks, m edges and k cells
-pub record Within (n m k : ℕ) (w : List ℕ) : Type 0 where
-  pub blocks : header w .blocks ≤ n
-  pub edges : header w .edges ≤ m
-  pub cells : cellCount (task w .blocks) (task w .largest) ≤ k
-
--- a sheet for which middling rows are enough, if it passes
-pub record Little (w : List ℕ) : Type 0 where
-  pub blocks : header w .blocks ≤ 32
-  pub cells : cellCount (task w .blocks) (task w .largest) ≤ 2048

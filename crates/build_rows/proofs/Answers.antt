@@ -19,7 +19,7 @@ use Rattle.tables.specs.Rows.{edgesOf}
 use Rattle.tables.proofs.Rows.{edges-are}
 use Rattle.write.specs.Put.{putWords}
 use Rattle.write.proofs.Put.{put-more}
-use Rattle.build.specs.Within.{answerAt}
+use Rattle.build_rows.specs.Within.{answerAt}
 
 -- the length of the records, and of a written sheet
 pub records-length : (rs : List Row) → length (recordWords rs) ≡ 3 * length rs + 2 * edgeCount rs

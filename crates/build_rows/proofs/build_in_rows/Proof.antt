@@ -7,11 +7,11 @@ use native.Mathlib.Omega.{arith}
 use lib.ListN.{length}
 use Rattle.theory.specs.Tasks.{Task}
 use Rattle.formats.proofs.Accepted.{accepted}
-use Rattle.build.specs.Within.{answerAt, outputAt}
-use Rattle.build.proofs.Front.{fits-not, fits}
-use Rattle.build.proofs.Ready.{front-passes, same-task, small-budget, something-fits, row-table, row-cells}
-use Rattle.build.proofs.build_in_rows.Statement.{statement}
-use Rattle.build.proofs.build_in_rows.Tie as tie
+use Rattle.build_rows.specs.Within.{answerAt, outputAt}
+use Rattle.build_rows.proofs.Front.{fits-not, fits}
+use Rattle.build_rows.proofs.Ready.{front-passes, same-task, small-budget, something-fits, row-table, row-cells}
+use Rattle.build_rows.proofs.build_in_rows.Statement.{statement}
+use Rattle.build_rows.proofs.build_in_rows.Tie as tie
 
 weigh-into-requires : tie.Need-weigh-into-requires
 weigh-into-requires c κs = let p = c .before .before .before .before .before .before .before .before .before .before .pre in ((p .0 .ok, p .0 .room), (p .1 .0, p .1 .1 .0))

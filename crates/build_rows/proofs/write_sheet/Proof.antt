@@ -12,10 +12,10 @@ use Rattle.calls.specs.SheetGraph.{rowsOf}
 use Rattle.graph_row.specs.GraphRow.{graphIn, taskIn}
 use Rattle.write.specs.Put.{putWords}
 use Rattle.write.proofs.Put.{put-length}
-use Rattle.build.proofs.Answers.{sheet-length, records-room, written}
-use Rattle.build.proofs.Ready.{served}
-use Rattle.build.proofs.write_sheet.Statement.{statement}
-use Rattle.build.proofs.write_sheet.Tie as tie
+use Rattle.build_rows.proofs.Answers.{sheet-length, records-room, written}
+use Rattle.build_rows.proofs.Ready.{served}
+use Rattle.build_rows.proofs.write_sheet.Statement.{statement}
+use Rattle.build_rows.proofs.write_sheet.Tie as tie
 
 put-three-requires : tie.Need-put-three-requires
 put-three-requires c κs =

@@ -1,15 +1,14 @@
 -- 10 by the edges, else what `write_numbered` answers.
--- Rests on tables Tables, Answers.
+-- Rests on Answers.
 use borrow.Author.Needs.{needs}
 use mathlib.Core.Path.{refl, ap, _∙_}
 use native.Mathlib.Omega.{arith}
 use lib.ListN.{length}
-use Rattle.tables.proofs.Tables.{numbers-of}
 use Rattle.graph_row.specs.GraphRow.{taskIn}
-use Rattle.build.specs.Within.{outputAt}
-use Rattle.build.proofs.Answers.{many-edges}
-use Rattle.build.proofs.build_weighed.Statement.{statement}
-use Rattle.build.proofs.build_weighed.Tie as tie
+use Rattle.build_rows.specs.Within.{outputAt}
+use Rattle.build_rows.proofs.Answers.{many-edges}
+use Rattle.build_rows.proofs.build_weighed.Statement.{statement}
+use Rattle.build_rows.proofs.build_weighed.Tie as tie
 
 find-copies-requires : tie.Need-find-copies-requires
 find-copies-requires c κs = c .before .before .before .before .before .before .before .pre
@@ -18,10 +17,10 @@ returns : tie.Need-returns
 unfolding outputAt
 returns c =
     let z = c .before .before .before .before .before .before .before .before .before .before .before .before .before in
-    (many-edges (taskIn (z .args .row .now) (z .args .b)) (length (z .args .out .now)) (omega (arith, c .before .before .before .before .before .find-copies .ensures .1 .0)), refl)
+    (many-edges (taskIn (z .args .row .now) (z .args .b)) (length (z .args .out .now)) (omega (arith, c .before .before .before .before .before .find-copies .ensures .1 .1 .0)), refl)
 
 sub-edges : tie.Need-sub-edges
-sub-edges c = omega (arith, c .before .before .before .before .before .find-copies .ensures .1 .0)
+sub-edges c = omega (arith, c .before .before .before .before .before .find-copies .ensures .1 .1 .0)
 
 blocks-in-requires : tie.Need-blocks-in-requires
 blocks-in-requires c κs = omega (arith, c .before .before .before .before .before .before .before .before .before .before .before .before .before .pre .0 .room)
@@ -32,7 +31,7 @@ number-requires c κs =
     let f = c .before .before .before .before .before .before .before .before .find-copies .ensures in
     rw (c .before .before .blocks-in .ensures .0) (
       (p .0 .blocks .1, p .1 .0 .0),
-      (p .1 .1 .0 .room, omega (arith, f .0 .1, p .1 .1 .1 .0 .1), omega (arith, f .0 .0, p .1 .1 .1 .0 .0)),
+      (omega (arith, f .0 .1, p .1 .1 .1 .0 .1), omega (arith, f .0 .0, p .1 .1 .1 .0 .0)),
     )
 
 write-numbered-requires : tie.Need-write-numbered-requires
@@ -41,10 +40,10 @@ write-numbered-requires c κs =
     let p = z .pre in
     let f = c .before .before .before .before .before .before .before .before .before .before .before .before .before .before .find-copies .ensures in
     let n = c .before .before .before .before .before .before .before .before .blocks-in .ensures .0 in
-    let m = f .1 .1 (omega arith) in
+    let m = f .1 .1 .1 (omega arith) in
     let k = rw n at (c .before .before .before .before .before .number .ensures) in
-    let N = rw m at (numbers-of (p .1 .1 .0) (k .1 .1)) in
-    (p .0, (p .1 .0, ((omega (arith, f .0 .1, p .1 .1 .1 .0 .1), m), (N, (k .0 ∙ ap length m, (omega (arith, f .1 .0), omega (arith, f .1 .0)))))))
+    let N = k .1 .1 _ (f .1 .0) in
+    (p .0, (p .1 .0, ((omega (arith, f .0 .1, p .1 .1 .1 .0 .1), m), (N, (k .0 ∙ ap length m, (omega (arith, f .1 .1 .0), omega (arith, f .1 .1 .0)))))))
 
 returns-2 : tie.Need-returns-2
 returns-2 c = c .before .before .write-numbered .ensures

@@ -3,8 +3,8 @@
 use borrow.Author.Needs.{needs}
 use native.Mathlib.Omega.{arith}
 use Rattle.tables.proofs.Tables.{lows-of}
-use Rattle.build.proofs.find_copies.Statement.{statement}
-use Rattle.build.proofs.find_copies.Tie as tie
+use Rattle.build_rows.proofs.find_copies.Statement.{statement}
+use Rattle.build_rows.proofs.find_copies.Tie as tie
 
 blocks-in-requires : tie.Need-blocks-in-requires
 blocks-in-requires c κs = omega (arith, c .before .before .before .before .pre .0 .room)
@@ -21,7 +21,10 @@ reach-requires c κs =
     (p .0, (p .1 .0, (lows-of (p .1 .1 .0) L, (p .1 .1 .1 .0 .1, p .1 .1 .1 .1))))
 
 returns : tie.Need-returns
-returns c = let r = c .before .before .reach .ensures in ((search needs, r .0), r .1)
+returns c =
+    let r = c .before .before .reach .ensures in
+    let L = rw (c .before .before .before .before .before .before .before .before .before .blocks-in .ensures .0) at (c .before .before .before .before .before .before .before .fill-lows .ensures .1) in
+    ((search needs, r .0), (lows-of (c .before .before .before .before .before .before .before .before .before .before .before .before .before .before .pre .1 .1 .0) L, r .1))
 
 pub find-copies-spec : {M : Type 1} → statement M
 find-copies-spec =

@@ -1,4 +1,4 @@
--- What the steps of a build hand on: marked copies cover their blocks' costs, rows of zeros are clear, a decoded sheet's task.
+-- What the steps of a build hand on: a marked copy's low is a completion cost of its block, and the task of a decoded sheet.
 -- Rests on theory Reach and Completions, graph_row Setting, formats Accepted, calls Area, specs Within.
 use mathlib.Core.Path.{_≡_, refl, sym, ap, ap₂, subst, _∙_}
 use mathlib.Core.Bool.{Bool, true, false}
@@ -17,7 +17,7 @@ use Rattle.base.proofs.Orders.{unrefused}
 use Rattle.theory.specs.Completions.{lowOf}
 use Rattle.theory.specs.Tasks.{Task, taskAt, copiesIn}
 use Rattle.theory.specs.Copies.{candidates}
-use Rattle.theory.proofs.Completions.{covers}
+use Rattle.theory.proofs.Completions.{completes-complete}
 use Rattle.theory.proofs.Reach.{copy-sound, candidate}
 use Rattle.formats.specs.Limits.{mostBlocks, mostBudget}
 use Rattle.formats.specs.GraphSheet.{Header, header, budgetIn}
@@ -33,9 +33,9 @@ use Rattle.graph_row.proofs.Setting.{row-setting}
 use Rattle.flatten.specs.Decoded.{Decoded}
 use Rattle.descend.specs.Marks.{Clear}
 use Rattle.write.specs.Marked.{Marked}
-use Rattle.build.specs.Within.{Passes, Within}
+use Rattle.build_rows.specs.Within.{Passes}
 
--- MARKED COPIES are copies of the task, whose lows cover the costs of their blocks
+-- MARKED COPIES are copies of the task, whose lows are completion costs of their blocks
 pub served : {row : List ℕ} → Flat row → (b : ℕ) {marks : List ℕ} → b ≤ mostBudget → isNone (lowOf (graphIn row) 1 b) ≡ false
     → cellCount (blocksIn row) b ≤ length marks → markedCopies (blocksIn row) b marks ≡ copiesIn (taskIn row b)
     → Marked (graphIn row) (blocksIn row) b marks
@@ -46,37 +46,10 @@ served {row} F b {marks} l o room e =
     record {
       budget = l;
       room = room;
-      covers = λ v x p q r m.
+      serves = λ v x p q r m.
           let c : List·Memᴰ (copyOf v x) (markedCopies (blocksIn row) b marks)
           = keep-i (λ c. marked b marks (c .block) (c .low)) (candidates (blocksIn row) b) (candidate (blocksIn row) b (copyOf v x) (p, q) r) m in
-          covers (graphIn row) (F .laws) (copy-sound S (copyOf v x) (subst (List·Memᴰ (copyOf v x)) e c) .1 .cost);
-    }
-
--- A ROW OF ZEROS has no mark
-pub zeros-clear : (n : ℕ) → Clear (replicate n 0)
-unfolding Clear
-zeros-clear n i = go n i
-  where
-    go : (n i : ℕ) → getD (replicate {A = ℕ} n 0) i 0 ≡ 0
-    go zero i = refl
-    go (suc n) zero = refl
-    go (suc n) (suc i) = go n i
-
--- the cells that were counted
-pub cells-are : (w : List ℕ) {h : Header} {b x : ℕ} → h ≡ header w → b ≡ budgetIn w → x ≡ cellCount (h .blocks) b
-    → x ≡ cellCount (header w .blocks) (budgetIn w)
-cells-are w p q e = e ∙ ap₂ cellCount (ap (λ (h : Header). h .blocks) p) q
-
--- any sheet is within these
-pub any-sheet : (w area : List ℕ) → Passes w area → Within 128 512 64128 w
-unfolding cellCount
-any-sheet w area P =
-    let A = accepted w (P .ok) in
-    record {
-      blocks = A .sound .form .blocks .1;
-      edges = A .sound .form .edges .1;
-      cells = mul-le-mul {n₁ = header w .blocks} {m₁ = suc (budgetIn w)} {n₂ = mostBlocks} {m₂ = suc mostBudget} (A .sound .form .blocks .1)
-          (omega (arith, A .budget));
+          completes-complete (graphIn row) (F .laws) (copy-sound S (copyOf v x) (subst (List·Memᴰ (copyOf v x)) e c) .1 .cost);
     }
 
 -- A DECODED AND WEIGHED SHEET

@@ -1,0 +1,20 @@
+-- The local rows serve the sheet.
+-- Rests on Local.
+use borrow.Author.Needs.{needs}
+use native.Mathlib.Omega.{arith}
+use Rattle.build.proofs.Local.{rows-serve}
+use Rattle.build.proofs.build_shallow.Statement.{statement}
+use Rattle.build.proofs.build_shallow.Tie as tie
+
+build-in-rows-requires : tie.Need-build-in-rows-requires
+build-in-rows-requires c κs =
+    let p = c .before .before .before .before .before .before .before .before .before .pre in
+    rows-serve 127 512 2048 897 16384 (p .0) (p .1) (omega arith) (omega arith) (omega arith)
+
+returns : tie.Need-returns
+returns c = c .before .before .before .before .before .before .before .before .build-in-rows .ensures
+
+pub build-shallow-spec : {M : Type 1} → statement M
+build-shallow-spec =
+    tie.close
+    (tie.spec (λ c. search needs) (λ c. search needs) (λ c. search needs) (λ c. search needs) (λ c. search needs) build-in-rows-requires (λ c. search needs) (λ c. search needs) returns)

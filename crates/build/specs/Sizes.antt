@@ -1,0 +1,18 @@
+-- Sheets by their sizes: for which rows they are enough.
+-- Rests on base Cells, formats GraphSheet, calls SheetGraph.
+use mathlib.Core.List.{List}
+use Prim.Native.Nat.{ℕ, _≤_}
+use Rattle.base.specs.Cells.{cellCount}
+use Rattle.formats.specs.GraphSheet.{header}
+use Rattle.calls.specs.SheetGraph.{task}
+
+-- a sheet of at most n blocks, m edges and k cells
+pub record Within (n m k : ℕ) (w : List ℕ) : Type 0 where
+  pub blocks : header w .blocks ≤ n
+  pub edges : header w .edges ≤ m
+  pub cells : cellCount (task w .blocks) (task w .largest) ≤ k
+
+-- a sheet for which middling rows are enough, if it passes
+pub record Little (w : List ℕ) : Type 0 where
+  pub blocks : header w .blocks ≤ 32
+  pub cells : cellCount (task w .blocks) (task w .largest) ≤ 2048
