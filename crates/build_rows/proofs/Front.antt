@@ -14,9 +14,9 @@ use Rattle.formats.specs.BoundedSheet.{heading}
 use Rattle.calls.specs.SheetGraph.{task, boundedFor, boundedSheet, graph}
 use Rattle.calls.specs.Area.{filled}
 use Rattle.calls.specs.Weigh.{Weighing, nothingFits, fitOrder, frontOrder, weighOrder, beforeWeighing, areaAfter}
-use Rattle.calls.specs.Build.{Lent, tooMany, smallOutput, buildOrder, outputAfter, build}
+use Rattle.calls.specs.Build.{Lent, tooMany, smallOutput, buildOrder, outputAfter, build, built}
 use Rattle.calls.proofs.Weigh.{weigh-numbered, front-numbered, front-early, spared, late-area}
-use Rattle.build_rows.specs.Within.{answerAt, outputAt, built}
+use Rattle.build_rows.specs.Within.{answerAt, outputAt}
 
 module _ (w area out : List ℕ) where
   abbrev lent : Lent

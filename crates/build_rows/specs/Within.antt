@@ -1,4 +1,4 @@
--- A build of a task: the answers 10, 22 and 0, and the output row after them. A build of what is lent, and of what passes 1 to 8 and 21.
+-- A build of a task: the answers 10, 22 and 0, and the output row after them; a sheet that passes 1 to 8 and 21.
 -- Rests on theory Tasks, formats BoundedSheet, calls SheetGraph, Weigh and Build.
 use mathlib.Core.Path.{_≡_}
 use mathlib.Core.Bool.{true, false}
@@ -11,7 +11,7 @@ use Rattle.formats.specs.GraphSheet.{sheetRefusal}
 use Rattle.formats.specs.BoundedSheet.{heading}
 use Rattle.calls.specs.SheetGraph.{task, boundedFor}
 use Rattle.calls.specs.Weigh.{taskArea}
-use Rattle.calls.specs.Build.{Built, tooMany, build}
+use Rattle.calls.specs.Build.{tooMany}
 
 -- 10, then 22 for an output row of n words
 unfoldable pub answerAt : Task → ℕ → ℕ
@@ -22,10 +22,6 @@ answerAt T n =
 unfoldable pub outputAt : Task → ℕ → List ℕ → List ℕ
 outputAt T zero out = boundedFor T ++ drop (length (boundedFor T)) out
 outputAt T (suc n) out = out
-
--- a build of what is lent
-abbrev pub built : List ℕ → List ℕ → List ℕ → Built
-built w area out = build (record { sheet = w; area = area; output = out })
 
 -- a sheet that passes 1 to 8, with area enough
 pub record Passes (w area : List ℕ) : Type 0 where

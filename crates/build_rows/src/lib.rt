@@ -13,11 +13,12 @@ ghost use Rattle.formats.specs.Limits.{mostBudget, mostCopies, mostBoundedEdges
 ghost use Rattle.formats.specs.GraphSheet.{header};
 ghost use Rattle.calls.specs.SheetGraph.{task, boundedFor};
 ghost use Rattle.calls.specs.Area.{Table};
+ghost use Rattle.calls.specs.Build.{built};
 ghost use Rattle.tables.specs.Tables.{markedCopies, Lows, Numbers};
 ghost use Rattle.tables.specs.Rows.{edgesOf};
 ghost use Rattle.graph_row.specs.GraphRow.{blocksIn, graphIn, taskIn, Flat};
 ghost use Rattle.descend.specs.Marks.{Clear};
-ghost use Rattle.build_rows.specs.Within.{answerAt, outputAt, built, Passes};
+ghost use Rattle.build_rows.specs.Within.{answerAt, outputAt, Passes};
 use descend::reach;
 use graph_row::blocks_in;
 use headers::HEADING_WORDS;

@@ -48,3 +48,7 @@ unfoldable pub build : Lent → Built
 build i =
     let a = refused buildOrder i in
     record { answer = a; area = areaAfter (task (i .sheet)) a (i .area); output = outputAfter (i .sheet) a (i .output) }
+
+-- a build of a sheet, an area and an output
+abbrev pub built : List ℕ → List ℕ → List ℕ → Built
+built w area out = build (record { sheet = w; area = area; output = out })

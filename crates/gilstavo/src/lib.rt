@@ -8,7 +8,7 @@ ghost use Rattle.theory.specs.Walks.{starting};
 ghost use Rattle.base.specs.Checks.{lentAfter};
 ghost use Rattle.calls.specs.Moves.{guardedMove};
 ghost use Rattle.calls.specs.Weigh.{weighed};
-ghost use Rattle.build.specs.Within.{built};
+ghost use Rattle.calls.specs.Build.{built};
 ghost use Rattle.reader.specs.Placed.{Placed};
 ghost use Rattle.walk.specs.Walks.{endOf, walkOf};
 ghost use Rattle.gilstavo.specs.WalkWords.{endIn, endWord, walkIn, walkWords};
