@@ -1,19 +1,22 @@
--- One cost of one block passed on: some more cells are set, those of the blocks in its list.
--- Rests on theory Completions, Written, specs Joined, Lists and States.
-use mathlib.Core.Path.{_≡_, refl, sym, ap, subst, _∙_}
-use mathlib.Core.Bool.{true}
+-- One block's cost: set where the masks meet, in the area and in its mask.
+-- Rests on theory Completions, calls Area, masks Masks, Cells, Written, specs Masked and States.
+use mathlib.Core.Path.{_≡_, refl, sym, ap, ap₂, subst, _∙_}
+use mathlib.Core.Logic.{_≢_}
+use mathlib.Core.Bool.{true, false}
 use mathlib.Core.List.{List, List·Memᴰ}
-use Prim.Native.Nat.{ℕ, _+_, _≤_, _<_}
-use native.Mathlib.Omega.{arith}
+use Prim.Native.Nat.{ℕ, _+_, _-_, _*_, _≤_, _<_}
 use native.Mathlib.Decide.{ℕ-discrete}
-use lib.ListN.{getD}
-use Rattle.theory.specs.Completions.{Graph, step, completes}
+use native.Mathlib.Omega.{arith}
+use lib.ListN.{length}
+use Rattle.theory.specs.Completions.{Graph, Completion, exit, step, completes}
 use Rattle.theory.proofs.Completions.{completes-sound, completes-complete}
 use Rattle.base.specs.Cells.{cellOf}
-use Rattle.calls.specs.Area.{stands, withCell}
-use Rattle.weigh.specs.Joined.{Joined}
-use Rattle.weigh.specs.Lists.{Lists}
-use Rattle.weigh.specs.States.{Fair, Wider, Reached, Spread}
+use Rattle.calls.specs.Area.{stands, withCell, cleared}
+use Rattle.calls.proofs.Area.{set-others, cleared-filling, cleared-stands}
+use Rattle.masks.specs.Masks.{inMask, Empty, Put, Common}
+use Rattle.weigh.specs.Masked.{Mirror, Kept}
+use Rattle.weigh.specs.States.{Ready, Fair, Wider}
+use Rattle.weigh.proofs.Cells.{ready-on}
 use Rattle.weigh.proofs.Written.{wrote-here, wrote-stays, wrote-same, wrote-filling, wrote-fair}
 
 -- MORE CELLS SET
@@ -26,63 +29,84 @@ wider-then K M = record {
   stays = λ v c e. M .stays v c (K .stays v c e);
 }
 
-pub reached-on : {g : Graph} {n b : ℕ} {area after : List ℕ} → Wider g n b area after → (u c : ℕ) → Reached g b area u c → Reached g b after u c
-unfolding Reached
-reached-on M u c h l = M .stays u _ (h l)
-
 module _ {g : Graph} {n b : ℕ} {area : List ℕ} (F : Fair g n b area) where
   pub same-wide : Wider g n b area area
   same-wide = record { fair = F; same = refl; filling = λ f G. G; stays = λ v c e. e }
 
-  -- u's cell, at d: its cost and c
-  module _ (u c : ℕ) {d : ℕ} (q : d ≡ g .cost u + c) where
-    pub beyond : b < d → Reached g b area u c
-    unfolding Reached
-    beyond l k = absurd (omega arith)
+  module _ {v c : ℕ} (p : (1 ≤ v) × (v ≤ n)) (l : c ≤ b) (m : completes g v c ≡ true) {after : List ℕ} (s : after ≡ withCell area (cellOf b v c)) where
+    pub wrote : Wider g n b area after
+    wrote = record {
+      fair = wrote-fair (F .ready) (F .cells) v c p l m s (wrote-stays (F .ready) (F .cells) v c p l m s 2 0 (F .exit));
+      same = wrote-same (F .ready) (F .cells) v c p l m s;
+      filling = wrote-filling (F .ready) (F .cells) v c p l m s;
+      stays = wrote-stays (F .ready) (F .cells) v c p l m s;
+    }
 
-    module _ (p : (1 ≤ u) × (u ≤ n)) (m : completes g u (g .cost u + c) ≡ true) (l : d ≤ b) {after : List ℕ}
-        (s : after ≡ withCell area (cellOf b u d)) where
-      dear : completes g u d ≡ true
-      dear = ap (λ (x : ℕ). completes g u x) q ∙ m
+    pub wrote-it : stands b after v c ≡ true
+    wrote-it = wrote-here (F .ready) (F .cells) v c p l m s
 
-      pub wrote : Wider g n b area after
-      wrote = record {
-        fair = wrote-fair (F .ready) (F .cells) u d p l dear s (wrote-stays (F .ready) (F .cells) u d p l dear s 2 0 (F .exit));
-        same = wrote-same (F .ready) (F .cells) u d p l dear s;
-        filling = wrote-filling (F .ready) (F .cells) u d p l dear s;
-        stays = wrote-stays (F .ready) (F .cells) u d p l dear s;
-      }
+-- A CELL AND A BIT set together
+pub mirror-put : {g : Graph} {n b : ℕ} {has area : List ℕ} → Ready g n b area → Mirror n b has area → {v c : ℕ} → (1 ≤ v) × (v ≤ n) → c ≤ b
+    → {has′ after : List ℕ} → Put c v has has′ → after ≡ withCell area (cellOf b v c) → stands b after v c ≡ true → Mirror n b has′ after
+mirror-put {g} {n} {b} {has} {area} S M {v} {c} p l {has′} {after} P s e = record {
+  room = omega (arith, P .same, M .room);
+  cells = λ t d i j k. go t d i j k (ℕ-discrete t v) (ℕ-discrete d c);
+}
+  where
+    other : (t d : ℕ) → 1 ≤ t → t ≤ n → d ≤ b → ((t ≡ v) × (d ≡ c) → ⊥) → inMask has′ d t ≡ stands b after t d
+    other t d i j k x =
+        P .others d t i (omega (arith, S .graph .blocks .1)) (λ y z. x (z, y)) ∙ M .cells t d i j k
+        ∙ sym (set-others n b area (S .room) v c (p .0) (p .1) l t d i k x) ∙ ap (λ (a : List ℕ). stands b a t d) (sym s)
 
-      pub wrote-reached : Reached g b after u c
-      unfolding Reached
-      wrote-reached k = ap (λ (x : ℕ). stands b after u x) (sym q) ∙ wrote-here (F .ready) (F .cells) u d p l dear s
+    go : (t d : ℕ) → 1 ≤ t → t ≤ n → d ≤ b → Dec (t ≡ v) → Dec (d ≡ c) → inMask has′ d t ≡ stands b after t d
+    go t d i j k (yes y) (yes z) = ap₂ (λ (d t : ℕ). inMask has′ d t) z y ∙ P .here ∙ sym e ∙ ap₂ (λ (t d : ℕ). stands b after t d) (sym y) (sym z)
+    go t d i j k (no y) _ = other t d i j k (λ x. y (x .0))
+    go t d i j k (yes y) (no z) = other t d i j k (λ x. z (x .1))
 
--- v's cost c is passed on to the first i blocks of v's list
-pub record Spreading (g : Graph) (n b : ℕ) (lists : List ℕ) (r v c : ℕ) (first area : List ℕ) (i : ℕ) : Type 0 where
-  pub wide : Wider g n b first area
-  pub done : (j : ℕ) → j < i → Reached g b area (getD lists (cellOf r v j) 0) c
+-- WHERE THE MASKS MEET v has the cost, and where they do not it has not
+module _ {g : Graph} {n b : ℕ} {nexts has area : List ℕ} (K : Kept g n b nexts has area) {v c own : ℕ} (o : own ≡ g .cost v) where
+  pub met-completes : c ≤ b → own ≤ c → Common has (c - own) nexts v → completes g v c ≡ true
+  met-completes l k C =
+      let t = C .block in
+      let m = K .listed .sound v t (C .range .0) (C .range .1) (C .other) in
+      let r = K .fair .ready .graph .target v t m in
+      let d : c - own ≤ b = omega arith in
+      let e = K .fair .cells t (c - own) (C .range .0) (r .1) d (sym (K .mirror .cells t (c - own) (C .range .0) (r .1) d) ∙ C .one) in
+      completes-complete g (K .fair .ready .graph .laws) (step m (completes-sound g (K .fair .ready .graph .laws) t (c - own) e) (omega arith))
 
-module _ {g : Graph} {n b : ℕ} {lists : List ℕ} {r v c : ℕ} where
-  pub spread-none : {area : List ℕ} → Fair g n b area → Spreading g n b lists r v c area area 0
-  spread-none F = record { wide = same-wide F; done = λ j l. absurd (omega arith) }
+  module _ (ahead : (t d : ℕ) → List·Memᴰ t (g .next v) → c ≡ g .cost v + d → completes g t d ≡ true → stands b area t d ≡ true)
+      (p : (1 ≤ v) × (v ≤ n) × (v ≢ 2)) (l : c ≤ b) where
+    onward : {w d : ℕ} → Completion g w d → w ≡ v → d ≡ c → (own ≤ c) × Common has (c - own) nexts v
+    onward exit e z = absurd (p .2 (sym e))
+    onward (step {v = w} {t = t} {c = f} {n = d} m r i) e z =
+        let m′ : List·Memᴰ t (g .next v) = subst (λ (x : ℕ). List·Memᴰ t (g .next x)) e m in
+        let q : c ≡ g .cost v + f = sym z ∙ i ∙ ap (λ (x : ℕ). g .cost x + f) e in
+        let k : c - own ≡ f = omega arith in
+        let s = K .fair .ready .graph .target v t m′ in
+        let h = ahead t f m′ q (completes-complete g (K .fair .ready .graph .laws) r) in (
+          omega arith,
+          record {
+            block = t;
+            range = (omega (arith, s .0), omega (arith, s .1, K .fair .ready .graph .blocks .1));
+            one = ap (λ (x : ℕ). inMask has x t) k ∙ K .mirror .cells t f (omega (arith, s .0)) (s .1) (omega arith) ∙ h;
+            other = K .listed .full v t (omega (arith, p .1)) m′;
+          },
+        )
 
-  pub spread-more : {first area after : List ℕ} {i u : ℕ} → Spreading g n b lists r v c first area i → u ≡ getD lists (cellOf r v i) 0
-      → Wider g n b area after → Reached g b after u c → Spreading g n b lists r v c first after (i + 1)
-  spread-more {first} {area} {after} {i} {u} I q M h = record { wide = wider-then (I .wide) M; done = λ j l. go j l (ℕ-discrete j i) }
-    where
-      go : (j : ℕ) → j < i + 1 → Dec (j ≡ i) → Reached g b after (getD lists (cellOf r v j) 0) c
-      go j l (yes z) =
-          subst (λ (x : ℕ). Reached g b after (getD lists (cellOf r v x) 0) c) (sym z) (subst (λ (x : ℕ). Reached g b after x c) q h)
-      go j l (no x) = reached-on M _ c (I .done j (omega arith))
+    pub too-dear : c < own → completes g v c ≡ true → ⊥
+    too-dear k m = omega (arith, onward (completes-sound g (K .fair .ready .graph .laws) v c m) refl refl .0)
 
-  pub spread-all : {first area counts : List ℕ} {i : ℕ} → Lists g n r lists counts → Spreading g n b lists r v c first area i
-      → getD counts v 0 ≤ i → Spread g b area v c
-  unfolding Spread
-  spread-all {first} {area} R I l u m =
-      let x = R .full u v m in
-      subst (λ (y : ℕ). Reached g b area y c) (x .here) (I .done (x .place) (omega (arith, x .below)))
+    pub unmet : (Common has (c - own) nexts v → ⊥) → completes g v c ≡ true → ⊥
+    unmet n m = n (onward (completes-sound g (K .fair .ready .graph .laws) v c m) refl refl .1)
 
--- a block of v's list has what v has, and its own cost
-pub before-completes : {g : Graph} {n : ℕ} → Joined g n → (u v c : ℕ) → List·Memᴰ v (g .next u) → completes g v c ≡ true
-    → completes g u (g .cost u + c) ≡ true
-before-completes {g} G u v c m e = completes-complete g (G .laws) (step m (completes-sound g (G .laws) v c e) refl)
+-- THE EXIT'S COST 0 ALONE, of m blocks
+pub mirror-begun : {g : Graph} {n b : ℕ} {has area : List ℕ} → Ready g n b area → {m : ℕ} → m ≡ n → Empty has × (2 * b + 2 ≤ length has)
+    → {mid after has′ : List ℕ} → mid ≡ cleared m b area → after ≡ withCell mid (cellOf b 2 0) → stands b after 2 0 ≡ true → Put 0 2 has has′
+    → Mirror n b has′ after
+unfolding Empty
+mirror-begun {g} {n} {b} {has} {area} S i p {mid} o s e P =
+    let q : mid ≡ cleared n b area = o ∙ ap (λ (x : ℕ). cleared x b area) i in
+    let R = ready-on S (ap length q ∙ cleared-filling n b area (S .room) .same) in
+    let M : Mirror n b has mid
+    = record { room = p .1; cells = λ t c j k l. p .0 c t ∙ sym (ap (λ (a : List ℕ). stands b a t c) q ∙ cleared-stands n b area (S .room) t c j k l) } in
+    mirror-put R M (omega arith, S .graph .blocks .0) (omega arith) P s e

@@ -1,5 +1,5 @@
--- A graph whose edges join its blocks, the lists of the blocks that a block succeeds, and the states of the work area while it is filled.
--- Rests on theory, formats and calls.
+-- A graph whose edges join its blocks, the masks that weighing keeps, and the states of the work area while it is filled.
+-- Rests on theory, formats, calls and masks.
 pub mod Joined
-pub mod Lists
 pub mod States
+pub mod Masked

@@ -2,8 +2,8 @@
 -- Rests on theory Completions, formats Limits, calls Area, Joined. A graph g of the blocks 1 to n, and the budget b.
 use mathlib.Core.Path.{_≡_}
 use mathlib.Core.Bool.{true}
-use mathlib.Core.List.{List, List·Memᴰ}
-use Prim.Native.Nat.{ℕ, _+_, _≤_, _<_}
+use mathlib.Core.List.{List}
+use Prim.Native.Nat.{ℕ, _≤_, _<_}
 use lib.ListN.{length}
 use Rattle.theory.specs.Completions.{Graph, completes}
 use Rattle.formats.specs.Limits.{mostBudget}
@@ -29,15 +29,7 @@ pub record Wider (g : Graph) (n b : ℕ) (before after : List ℕ) : Type 0 wher
   pub filling : (first : List ℕ) → Filling n b first before → Filling n b first after
   pub stays : (v c : ℕ) → stands b before v c ≡ true → stands b after v c ≡ true
 
-module _ (g : Graph) (b : ℕ) (area : List ℕ) where
-  -- it stands for u's own cost and c, where the budget has both
-  unfoldable pub Reached : ℕ → ℕ → Type 0
-  Reached u c = g .cost u + c ≤ b → stands b area u (g .cost u + c) ≡ true
-
-  -- v's cost c is passed on
-  unfoldable pub Spread : ℕ → ℕ → Type 0
-  Spread v c = (u : ℕ) → List·Memᴰ v (g .next u) → Reached u c
-
-  -- all costs below c are passed on, and the cost c of the blocks below x
-  unfoldable pub Passed : ℕ → ℕ → Type 0
-  Passed c x = (t d : ℕ) → d ≤ c → (d ≡ c → t < x) → completes g t d ≡ true → Spread t d
+-- no completion cost is missing below c, nor the cost c of the blocks from 2 on that are below v
+pub record Settled (g : Graph) (n b : ℕ) (area : List ℕ) (c v : ℕ) : Type 0 where
+  pub before : (t d : ℕ) → 1 ≤ t → t ≤ n → d ≤ b → d < c → completes g t d ≡ true → stands b area t d ≡ true
+  pub here : (t : ℕ) → 2 ≤ t → t < v → t ≤ n → c ≤ b → completes g t c ≡ true → stands b area t c ≡ true

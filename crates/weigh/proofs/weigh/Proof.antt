@@ -1,48 +1,37 @@
--- The sources are listed, the cells cleared, and all costs passed on: the area is filled.
--- Rests on calls Area, Sources, Forward.
-use mathlib.Core.Path.{_∙_}
+-- The successors are listed, the cells cleared, and all costs settled: the area is filled.
+-- Rests on calls Area, Successors, Rising.
 use borrow.Author.Needs.{needs}
 use Rattle.calls.proofs.Area.{filling-filled}
-use Rattle.weigh.proofs.Sources.{lists-none}
-use Rattle.weigh.proofs.Forward.{all-right}
+use Rattle.weigh.proofs.Flat.{joined}
+use Rattle.weigh.proofs.Successors.{nexts-none}
+use Rattle.weigh.proofs.Rising.{all-right}
 use Rattle.weigh.proofs.weigh.Statement.{statement}
 use Rattle.weigh.proofs.weigh.Tie as tie
 
 list-all-requires : tie.Need-list-all-requires
-list-all-requires c κs =
-    let z = c .before .before .before .before .before in
-    (z .pre .0, lists-none (z .pre .1 .0 .graph) (z .pre .1 .1))
+list-all-requires c κs = let p = c .before .before .before .before .before .pre in (p .0, nexts-none (joined (p .0)) (p .1 .1 .0))
 
 begin-requires : tie.Need-begin-requires
-begin-requires c κs =
-    let z = c .before .before .before .before .before .before .before .before .before .before in
-    (z .pre .0, z .pre .1 .0)
+begin-requires c κs = let p = c .before .before .before .before .before .before .before .before .before .before .pre in (p .0, (p .1 .0, p .1 .1 .1))
 
 weigh-costs-requires : tie.Need-weigh-costs-requires
 weigh-costs-requires c κs =
-    let g = c .before .before .before .before .before in
-    let l = g .before .before .before .before .before in
-    (l .before .before .before .before .before .before .pre .0, (l .list-all .ensures, g .begin .ensures .1))
-
-same-length : tie.Need-same-length
-same-length c = search needs
+    let b = c .before .before .before .before .before .before .before .begin .ensures in
+    (c .before .before .before .before .before .before .before .before .before .before .before .before .before .before .before .before .before .before .pre .0, record { listed = c .before .before .before .before .before .before .before .before .before .before .before .before .list-all .ensures; fair = b .1 .0; mirror = b .1 .1 })
 
 returns : tie.Need-returns
 returns c =
-    let l = c .before .before in
-    let g = l .before .before .before .before .before .before in
-    let z = g .before .before .before .before .before .before .before .before .before .before .before in
-    let W = l .weigh-costs .ensures in
-    filling-filled (W .0 .filling _ (g .begin .ensures .0)) (all-right (W .0 .fair) (W .1))
-
-same-length-2 : tie.Need-same-length-2
-same-length-2 c =
-    let l = c .before .before in
-    let g = l .before .before .before .before .before .before in
-    l .weigh-costs .ensures .0 .same ∙ g .begin .ensures .0 .same
+    let w = c .before .before .before .before .weigh-costs .ensures in
+    filling-filled (w .0 .filling _ (c .before .before .before .before .before .before .before .before .before .before .before .before .begin .ensures .0)) (all-right (w .0 .fair) (w .1))
 
 pub weigh-spec : {M : Type 1} → statement M
 weigh-spec =
     tie.close
-    (tie.spec (λ c. search needs) list-all-requires begin-requires (λ c. search needs) weigh-costs-requires same-length same-length-2
+    (tie.spec
+    list-all-requires
+    begin-requires
+    weigh-costs-requires
+    (λ c. search needs)
+    (λ c. search needs)
+    (λ c. search needs)
     returns)

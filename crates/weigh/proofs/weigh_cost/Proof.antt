@@ -1,54 +1,90 @@
--- The loop over the blocks 2 to N: one cost is passed on.
--- Rests on OneCost, Forward.
+-- The blocks from 3 on, then the start; the measure is the blocks left.
+-- Rests on Rising.
+use borrow.Author.Needs.{needs}
+use mathlib.Core.Path.{_∙_}
 use Prim.Native.Nat.{_+_, _-_, _≤_}
 use native.Mathlib.Omega.{arith}
-use borrow.Author.Needs.{needs}
 use Rattle.graph_row.specs.GraphRow.{blocksIn, graphIn}
-use Rattle.weigh.specs.States.{Wider, Passed}
-use Rattle.weigh.proofs.OneCost.{same-wide, wider-then}
-use Rattle.weigh.proofs.Forward.{next-cost}
+use Rattle.weigh.proofs.Flat.{joined}
+use Rattle.weigh.proofs.OneCost.{wider-then}
+use Rattle.weigh.proofs.Rising.{Going, going-start, going-on, settled-exit, settled-on, settled-next, ahead-block, ahead-start}
 use Rattle.weigh.proofs.weigh_cost.Statement.{statement}
 use Rattle.weigh.proofs.weigh_cost.Tie as tie
 
 abbrev Inv-loop : tie.InvT-loop
-Inv-loop row lists counts r area₀ b c n v₀ area v =
-    (2 ≤ v) × (v ≤ n + 1) × Wider (graphIn row) (blocksIn row) b area₀ area × Passed (graphIn row) b area c v
+Inv-loop row nexts has₀ area₀ b c n v₀ has area v = (3 ≤ v) × Going (graphIn row) (blocksIn row) b nexts has₀ area₀ has area c v
 
 abbrev μ-loop : tie.MeasureT-loop
-μ-loop row lists counts r area₀ b c n v₀ area v = n + 1 - v
+μ-loop row nexts has₀ area₀ b c n v₀ has area v = n + 1 - v
 
 blocks-in-requires : tie.Need-blocks-in-requires Inv-loop μ-loop
 blocks-in-requires c κs = omega (arith, c .before .before .before .before .pre .0 .room)
 
 loop-holds : tie.Need-loop-holds Inv-loop μ-loop
 loop-holds c =
-    let z = c .before .before .before .before .before in
-    (omega arith, omega (arith, z .pre .0 .blocks, c .blocks-in .ensures .0), same-wide (z .pre .1 .1 .0), z .pre .1 .1 .1 .1)
+    let p = c .before .before .before .before .before .pre in
+    (omega arith, going-start (p .1 .0) (settled-exit (p .1 .0 .fair) (p .1 .1 .1)))
 
-pass-requires : tie.Need-pass-requires Inv-loop μ-loop
-pass-requires c κs =
-    let l = c .before .before in
-    let z = l .before .before .before .before .before .before in
-    let i = l .loop .inv in
-    (z .pre .0, (z .pre .1 .0, (i .2 .fair, ((i .0, omega (arith, l .before .blocks-in .ensures .0), z .pre .1 .1 .1 .0), i .3))))
+settle-requires : tie.Need-settle-requires Inv-loop μ-loop
+settle-requires c κs =
+    let p = c .before .before .before .before .before .before .before .before .before .pre in
+    let l = c .before .before .before .loop .inv in
+    let t = c .before .before .loop-test .taken in (
+      p .0,
+      (
+        l .1 .kept,
+        (
+          (omega (arith, l .0), omega (arith, c .before .before .before .before .blocks-in .ensures .0, t), λ e. omega (arith, l .0), p .1 .1 .0),
+          ahead-block (joined (p .0)) (l .1 .settled) (p .1 .1 .0) (λ e. omega (arith, l .0)),
+        ),
+      ),
+    )
+
+add-v : tie.Need-add-v Inv-loop μ-loop
+add-v c = omega (arith, c .before .before .before .before .before .before .before .before .before .blocks-in .ensures, c .before .before .before .before .before .before .before .loop-test .taken, c .before .before .before .before .before .before .before .before .before .before .before .before .before .before .pre .0 .blocks)
 
 loop-again : tie.Need-loop-again Inv-loop μ-loop
 loop-again c =
-    let g = c .before .before in
-    let i = g .before .before .before .loop .inv in
-    (omega arith, omega arith, wider-then (i .2) (g .pass .ensures .0), g .pass .ensures .1)
+    let l = c .before .before .before .before .before .before .before .before .loop .inv in
+    let s = c .before .before .before .before .settle in
+    let e = s .ensures in
+    (omega (arith, l .0), going-on (l .1) (e .1 .0) (e .0) (s .kept .1 .1 .0) (settled-on (l .1 .settled) (e .0) (e .1 .1)))
 
-same-length : tie.Need-same-length Inv-loop μ-loop
-same-length c = c .before .loop .inv .2 .same
+settle-requires-2 : tie.Need-settle-requires-2 Inv-loop μ-loop
+settle-requires-2 c κs =
+    let p = c .before .before .before .before .before .before .before .before .before .pre in
+    let l = c .before .before .before .loop .inv in
+    let n = c .before .before .before .before .blocks-in .ensures .0 in (
+      p .0,
+      (
+        l .1 .kept,
+        (
+          (omega arith, omega (arith, p .0 .blocks), λ e. omega arith, p .1 .1 .0),
+          ahead-start (joined (p .0)) (l .1 .settled) (p .1 .1 .0) (omega (arith, n, c .before .before .loop-test .left)),
+        ),
+      ),
+    )
 
 returns : tie.Need-returns Inv-loop μ-loop
 returns c =
-    let l = c .before in
-    let i = l .loop .inv in
-    (i .2, next-cost (i .2 .fair .ready) _ _ (omega (arith, l .before .blocks-in .ensures .0)) (i .3))
+    let l = c .before .before .before .before .before .before .before .before .loop .inv in
+    let e = c .before .before .before .before .settle2 .ensures in
+    let n = c .before .before .before .before .before .before .before .before .before .blocks-in .ensures .0 in
+    (wider-then (l .1 .wider) (e .0), (e .1 .0, settled-next (omega (arith, n, c .before .before .before .before .before .before .before .loop-test .left)) (l .1 .settled) (e .0) (e .1 .1)))
 
 pub weigh-cost-spec : {M : Type 1} → statement M
 weigh-cost-spec =
     tie.close
-    (tie.spec Inv-loop μ-loop blocks-in-requires loop-holds pass-requires (λ c. search needs) (λ c. search needs) loop-again same-length
+    (tie.spec
+    Inv-loop
+    μ-loop
+    blocks-in-requires
+    loop-holds
+    settle-requires
+    add-v
+    (λ c. search needs)
+    loop-again
+    settle-requires-2
+    (λ c. search needs)
+    (λ c. search needs)
     returns)

@@ -1,0 +1,28 @@
+-- The masks of weighing: the successors of each block, and for each cost the blocks that the work area has it for.
+-- Rests on theory Completions, calls Area, masks Masks, States. A graph g of the blocks 1 to n, and the budget b.
+use mathlib.Core.Path.{_≡_}
+use mathlib.Core.Bool.{true}
+use mathlib.Core.List.{List, List·Memᴰ}
+use Prim.Native.Nat.{ℕ, _+_, _*_, _≤_, _<_}
+use lib.ListN.{length}
+use Rattle.theory.specs.Completions.{Graph}
+use Rattle.calls.specs.Area.{stands}
+use Rattle.masks.specs.Masks.{inMask}
+use Rattle.weigh.specs.States.{Fair}
+
+-- the mask v has successors of v alone, and all of them where v is below top
+pub record Nexts (g : Graph) (n top : ℕ) (nexts : List ℕ) : Type 0 where
+  pub room : 2 * n + 2 ≤ length nexts
+  pub sound : (v t : ℕ) → 1 ≤ t → t ≤ 128 → inMask nexts v t ≡ true → List·Memᴰ t (g .next v)
+  pub full : (v t : ℕ) → v < top → List·Memᴰ t (g .next v) → inMask nexts v t ≡ true
+
+-- the mask c has the blocks that the area stands for the cost c of
+pub record Mirror (n b : ℕ) (has area : List ℕ) : Type 0 where
+  pub room : 2 * b + 2 ≤ length has
+  pub cells : (t c : ℕ) → 1 ≤ t → t ≤ n → c ≤ b → inMask has c t ≡ stands b area t c
+
+-- all successors are listed, the area is fair, and the masks of the costs say the same
+pub record Kept (g : Graph) (n b : ℕ) (nexts has area : List ℕ) : Type 0 where
+  pub listed : Nexts g n (n + 1) nexts
+  pub fair : Fair g n b area
+  pub mirror : Mirror n b has area
