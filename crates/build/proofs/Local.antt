@@ -1,5 +1,5 @@
 -- Local rows serve every sheet within their sizes.
--- Rests on formats Accepted, weigh Lists, specs Sizes.
+-- Rests on formats Accepted, weigh_sheet Rows, specs Sizes.
 use mathlib.Core.Path.{_≡_, refl, ap, ap₂, _∙_}
 use mathlib.Core.List.{List}
 use Prim.Native.Nat.{ℕ, zero, suc, _+_, _*_, _≤_}
@@ -11,8 +11,9 @@ use Rattle.formats.specs.Limits.{mostBlocks, mostBudget}
 use Rattle.formats.specs.GraphSheet.{Header, header, budgetIn}
 use Rattle.formats.proofs.Accepted.{accepted}
 use Rattle.calls.specs.SheetGraph.{task}
-use Rattle.weigh.proofs.Lists.{few-places}
 use Rattle.descend.specs.Marks.{Clear}
+use Rattle.weigh_sheet.specs.Rows.{Rows}
+use Rattle.weigh_sheet.proofs.Rows.{zero-rows}
 use Rattle.build_rows.specs.Within.{Passes}
 use Rattle.build.specs.Sizes.{Within}
 
@@ -32,44 +33,28 @@ pub cells-are : (w : List ℕ) {h : Header} {b x : ℕ} → h ≡ header w → b
 cells-are w p q e = e ∙ ap₂ cellCount (ap (λ (h : Header). h .blocks) p) q
 
 -- any sheet is within these
-pub any-sheet : (w area : List ℕ) → Passes w area → Within 128 512 64128 w
+pub any-sheet : {w area : List ℕ} → Passes w area → Within 128 512 500 64128 w
 unfolding cellCount
-any-sheet w area P =
+any-sheet {w} P =
     let A = accepted w (P .ok) in
     record {
       blocks = A .sound .form .blocks .1;
       edges = A .sound .form .edges .1;
+      budget = A .budget;
       cells = mul-le-mul {n₁ = header w .blocks} {m₁ = suc (budgetIn w)} {n₂ = mostBlocks} {m₂ = suc mostBudget} (A .sound .form .blocks .1)
           (omega (arith, A .budget));
     }
 
--- a sheet whose cells were counted
-pub counted : {w area : List ℕ} → Passes w area → {h : Header} {b x k : ℕ} → h ≡ header w → b ≡ budgetIn w → x ≡ cellCount (h .blocks) b → x ≤ k
-    → Within 128 512 k w
-counted {w} {area} P p q e l =
-    let W = any-sheet w area P in record { blocks = W .blocks; edges = W .edges; cells = omega (arith, cells-are w p q e) }
+-- a sheet with fewer cells
+pub fewer : {w area : List ℕ} → Passes w area → {k : ℕ} → cellCount (task w .blocks) (task w .largest) ≤ k → Within 128 512 500 k w
+fewer P l = let W = any-sheet P in record { blocks = W .blocks; edges = W .edges; budget = W .budget; cells = l }
 
--- ROWS OF ZEROS for so many blocks, edges and cells: they are long enough, and clear
-pub rows-serve : (r m k words lists : ℕ) {w area : List ℕ} → Passes w area → Within (suc r) m k w → r ≤ mostBudget
-    → 1 + 3 * suc r + m ≤ words → suc r * suc r ≤ lists
-    → Passes w area
-    × ((1 + 3 * header w .blocks + header w .edges ≤ length (replicate {A = ℕ} words 0))
-    × (((header w .blocks ≤ suc r) × (r ≤ mostBudget) × (cellCount (header w .blocks) r ≤ length (replicate {A = ℕ} lists 0)))
+-- ROWS OF ZEROS for so many blocks, edges, costs and cells: they are long enough, and clear
+pub rows-serve : (n m b k x y z : ℕ) {w area : List ℕ} → Passes w area → Within n m b k w → 1 + 3 * n + m ≤ x → 2 * n + 2 ≤ y → 2 * b + 2 ≤ z
+    → Passes w area × (Rows w (replicate x 0) (replicate y 0) (replicate z 0)
     × (((cellCount (task w .blocks) (task w .largest) ≤ length (replicate {A = ℕ} k 0))
     × (cellCount (task w .blocks) (task w .largest) ≤ length (replicate {A = ℕ} k 0)))
-    × Clear (replicate k 0))))
-rows-serve r m k words lists {w} P W s p q =
-    let few : cellCount (task w .blocks) (task w .largest) ≤ length (replicate {A = ℕ} k 0) = omega (arith, W .cells, length-replicate {A = ℕ} k 0) in (
-      P,
-      (
-        omega (arith, W .blocks, W .edges, length-replicate {A = ℕ} words 0),
-        (
-          (
-            W .blocks,
-            s,
-            omega (arith, few-places (header w .blocks) r (suc r) (W .blocks) (omega arith), length-replicate {A = ℕ} lists 0),
-          ),
-          ((few, few), zeros-clear k),
-        ),
-      ),
-    )
+    × Clear (replicate k 0)))
+rows-serve n m b k x y z {w} P W i j l =
+    let few : cellCount (task w .blocks) (task w .largest) ≤ length (replicate {A = ℕ} k 0) = omega (arith, W .cells, length-replicate {A = ℕ} k 0) in
+    (P, (zero-rows n m b x y z (W .blocks) (W .edges) (W .budget) i j l, ((few, few), zeros-clear k)))

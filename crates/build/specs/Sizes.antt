@@ -6,13 +6,13 @@ use Rattle.base.specs.Cells.{cellCount}
 use Rattle.formats.specs.GraphSheet.{header}
 use Rattle.calls.specs.SheetGraph.{task}
 
--- a sheet of at most n blocks, m edges and k cells
-pub record Within (n m k : ℕ) (w : List ℕ) : Type 0 where
+-- a sheet of at most n blocks, m edges and k cells, and a budget of at most b
+pub record Within (n m b k : ℕ) (w : List ℕ) : Type 0 where
   pub blocks : header w .blocks ≤ n
   pub edges : header w .edges ≤ m
+  pub budget : task w .largest ≤ b
   pub cells : cellCount (task w .blocks) (task w .largest) ≤ k
 
 -- a sheet for which middling rows are enough, if it passes
-pub record Little (w : List ℕ) : Type 0 where
-  pub blocks : header w .blocks ≤ 32
-  pub cells : cellCount (task w .blocks) (task w .largest) ≤ 2048
+abbrev pub Little : List ℕ → Type 0
+Little w = cellCount (task w .blocks) (task w .largest) ≤ 2048

@@ -13,7 +13,8 @@ use graph_row::ROW_WORDS;
 use headers::budget;
 use headers::read_header;
 use tables::cell_count;
-use weigh_sheet::LISTS;
+use weigh_sheet::BLOCK_MASKS;
+use weigh_sheet::COST_MASKS;
 use weigh_sheet::front;
 use words::LEAST_WORDS;
 use words::MOST_BLOCKS;
@@ -21,14 +22,14 @@ use words::MOST_CELLS;
 
 // IN LOCAL ROWS, as large as the sheet asks
 
-// The sizes of the rows of a small build, of a middling one, and of those with many blocks but not the most cells.
-const FEW_BLOCKS: usize = 8;
+// The sizes of the rows of a small build, of a middling one, and of one with not the most cells.
+const FEW_BLOCKS: usize = 16;
 
-const FEW_EDGES: usize = 32;
+const FEW_EDGES: usize = 64;
 
-const FEW_CELLS: usize = 128;
+const LITTLE_BUDGET: usize = 31;
 
-const SOME_BLOCKS: usize = 32;
+const FEW_CELLS: usize = 256;
 
 const SOME_CELLS: usize = 2048;
 
@@ -37,13 +38,14 @@ const MANY_CELLS: usize = 16384;
 // For a small sheet.
 fn build_small(s: &[u16], area: &mut [u8], out: &mut [u16]) -> u16
     requires { ⌜ Passes (now s) (now area) ⌝ }
-    requires { ⌜ Within 8 32 128 (now s) ⌝ }
+    requires { ⌜ Within 16 64 31 256 (now s) ⌝ }
     ensures { λ a. ⌜ a ≡ built (now (s .entry)) (now (area .entry)) (now (out .entry)) .answer ⌝ }
     ensures { λ _. ⌜ now (area .exit) ≡ built (now (s .entry)) (now (area .entry)) (now (out .entry)) .area ⌝ }
     ensures { λ _. ⌜ now (out .exit) ≡ built (now (s .entry)) (now (area .entry)) (now (out .entry)) .output ⌝ }
 {
     let mut row = [0u16; 1 + 3 * FEW_BLOCKS + FEW_EDGES];
-    let mut lists = [0u8; FEW_BLOCKS * FEW_BLOCKS];
+    let mut nexts = [0u64; 2 * FEW_BLOCKS + 2];
+    let mut has = [0u64; 2 * LITTLE_BUDGET + 2];
     let mut table = [0u16; FEW_CELLS];
     let mut marks = [0u8; FEW_CELLS];
     build_in_rows(
@@ -51,8 +53,8 @@ fn build_small(s: &[u16], area: &mut [u8], out: &mut [u16]) -> u16
         area,
         out,
         &mut row,
-        &mut lists,
-        FEW_BLOCKS - 1,
+        &mut nexts,
+        &mut has,
         &mut table,
         &mut marks,
     )
@@ -61,13 +63,14 @@ fn build_small(s: &[u16], area: &mut [u8], out: &mut [u16]) -> u16
 // For a middling sheet.
 fn build_middling(s: &[u16], area: &mut [u8], out: &mut [u16]) -> u16
     requires { ⌜ Passes (now s) (now area) ⌝ }
-    requires { ⌜ Within 32 512 2048 (now s) ⌝ }
+    requires { ⌜ Within 128 512 500 2048 (now s) ⌝ }
     ensures { λ a. ⌜ a ≡ built (now (s .entry)) (now (area .entry)) (now (out .entry)) .answer ⌝ }
     ensures { λ _. ⌜ now (area .exit) ≡ built (now (s .entry)) (now (area .entry)) (now (out .entry)) .area ⌝ }
     ensures { λ _. ⌜ now (out .exit) ≡ built (now (s .entry)) (now (area .entry)) (now (out .entry)) .output ⌝ }
 {
     let mut row = [0u16; ROW_WORDS];
-    let mut lists = [0u8; SOME_BLOCKS * SOME_BLOCKS];
+    let mut nexts = [0u64; BLOCK_MASKS];
+    let mut has = [0u64; COST_MASKS];
     let mut table = [0u16; SOME_CELLS];
     let mut marks = [0u8; SOME_CELLS];
     build_in_rows(
@@ -75,32 +78,8 @@ fn build_middling(s: &[u16], area: &mut [u8], out: &mut [u16]) -> u16
         area,
         out,
         &mut row,
-        &mut lists,
-        SOME_BLOCKS - 1,
-        &mut table,
-        &mut marks,
-    )
-}
-
-// For a sheet of any blocks and edges and no more cells than a middling one.
-fn build_shallow(s: &[u16], area: &mut [u8], out: &mut [u16]) -> u16
-    requires { ⌜ Passes (now s) (now area) ⌝ }
-    requires { ⌜ Within 128 512 2048 (now s) ⌝ }
-    ensures { λ a. ⌜ a ≡ built (now (s .entry)) (now (area .entry)) (now (out .entry)) .answer ⌝ }
-    ensures { λ _. ⌜ now (area .exit) ≡ built (now (s .entry)) (now (area .entry)) (now (out .entry)) .area ⌝ }
-    ensures { λ _. ⌜ now (out .exit) ≡ built (now (s .entry)) (now (area .entry)) (now (out .entry)) .output ⌝ }
-{
-    let mut row = [0u16; ROW_WORDS];
-    let mut lists = [0u8; LISTS];
-    let mut table = [0u16; SOME_CELLS];
-    let mut marks = [0u8; SOME_CELLS];
-    build_in_rows(
-        s,
-        area,
-        out,
-        &mut row,
-        &mut lists,
-        MOST_BLOCKS - 1,
+        &mut nexts,
+        &mut has,
         &mut table,
         &mut marks,
     )
@@ -109,13 +88,14 @@ fn build_shallow(s: &[u16], area: &mut [u8], out: &mut [u16]) -> u16
 // For a sheet of any blocks and edges and many cells.
 fn build_wide(s: &[u16], area: &mut [u8], out: &mut [u16]) -> u16
     requires { ⌜ Passes (now s) (now area) ⌝ }
-    requires { ⌜ Within 128 512 16384 (now s) ⌝ }
+    requires { ⌜ Within 128 512 500 16384 (now s) ⌝ }
     ensures { λ a. ⌜ a ≡ built (now (s .entry)) (now (area .entry)) (now (out .entry)) .answer ⌝ }
     ensures { λ _. ⌜ now (area .exit) ≡ built (now (s .entry)) (now (area .entry)) (now (out .entry)) .area ⌝ }
     ensures { λ _. ⌜ now (out .exit) ≡ built (now (s .entry)) (now (area .entry)) (now (out .entry)) .output ⌝ }
 {
     let mut row = [0u16; ROW_WORDS];
-    let mut lists = [0u8; LISTS];
+    let mut nexts = [0u64; BLOCK_MASKS];
+    let mut has = [0u64; COST_MASKS];
     let mut table = [0u16; MANY_CELLS];
     let mut marks = [0u8; MANY_CELLS];
     build_in_rows(
@@ -123,8 +103,8 @@ fn build_wide(s: &[u16], area: &mut [u8], out: &mut [u16]) -> u16
         area,
         out,
         &mut row,
-        &mut lists,
-        MOST_BLOCKS - 1,
+        &mut nexts,
+        &mut has,
         &mut table,
         &mut marks,
     )
@@ -138,7 +118,8 @@ fn build_large(s: &[u16], area: &mut [u8], out: &mut [u16]) -> u16
     ensures { λ _. ⌜ now (out .exit) ≡ built (now (s .entry)) (now (area .entry)) (now (out .entry)) .output ⌝ }
 {
     let mut row = [0u16; ROW_WORDS];
-    let mut lists = [0u8; LISTS];
+    let mut nexts = [0u64; BLOCK_MASKS];
+    let mut has = [0u64; COST_MASKS];
     let mut table = [0u16; MOST_CELLS];
     let mut marks = [0u8; MOST_CELLS];
     build_in_rows(
@@ -146,8 +127,8 @@ fn build_large(s: &[u16], area: &mut [u8], out: &mut [u16]) -> u16
         area,
         out,
         &mut row,
-        &mut lists,
-        MOST_BLOCKS - 1,
+        &mut nexts,
+        &mut has,
         &mut table,
         &mut marks,
     )
@@ -156,13 +137,16 @@ fn build_large(s: &[u16], area: &mut [u8], out: &mut [u16]) -> u16
 // THE CALL
 
 // Whether a sheet is small.
-fn is_small(n: usize, m: usize, cells: usize) -> bool
-    ensures { λ r. ⌜ (r ≡ true → (n ≤ 8) × (m ≤ 32) × (cells ≤ 128)) ⌝ }
+fn is_small(n: usize, m: usize, b: usize, cells: usize) -> bool
+    ensures { λ r. ⌜ (r ≡ true → (n ≤ 16) × (m ≤ 64) × (b ≤ 31) × (cells ≤ 256)) ⌝ }
 {
     if FEW_BLOCKS < n {
         return false;
     }
     if FEW_EDGES < m {
+        return false;
+    }
+    if LITTLE_BUDGET < b {
         return false;
     }
     cells <= FEW_CELLS
@@ -179,7 +163,7 @@ fn build_passed(s: &[u16], area: &mut [u8], out: &mut [u16]) -> u16
     let h = read_header(s);
     let b = budget(s);
     let cells = cell_count(h.blocks, b);
-    if is_small(h.blocks, h.edges, cells) {
+    if is_small(h.blocks, h.edges, b, cells) {
         return build_small(s, area, out);
     }
     build_middling(s, area, out)
@@ -209,9 +193,6 @@ fn build_rest(s: &[u16], area: &mut [u8], out: &mut [u16]) -> u16
     let h = read_header(s);
     let b = budget(s);
     let cells = cell_count(h.blocks, b);
-    if cells <= SOME_CELLS {
-        return build_shallow(s, area, out);
-    }
     if cells <= MANY_CELLS {
         return build_wide(s, area, out);
     }
@@ -241,7 +222,7 @@ pub fn build(s: &[u16], area: &mut [u8], out: &mut [u16]) -> u16
         return build_little(s, area, out);
     }
     let h = read_header(s);
-    if SOME_BLOCKS < h.blocks {
+    if MOST_BLOCKS < h.blocks {
         return build_any(s, area, out);
     }
     let b = budget(s);

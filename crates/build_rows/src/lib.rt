@@ -10,7 +10,6 @@ ghost use Rattle.base.specs.Lists.{isNone};
 ghost use Rattle.theory.specs.Completions.{lowOf};
 ghost use Rattle.theory.specs.Tasks.{copiesIn};
 ghost use Rattle.formats.specs.Limits.{mostBudget, mostCopies, mostBoundedEdges};
-ghost use Rattle.formats.specs.GraphSheet.{header};
 ghost use Rattle.calls.specs.SheetGraph.{task, boundedFor};
 ghost use Rattle.calls.specs.Area.{Table};
 ghost use Rattle.calls.specs.Build.{built};
@@ -18,6 +17,7 @@ ghost use Rattle.tables.specs.Tables.{markedCopies, Lows, Numbers};
 ghost use Rattle.tables.specs.Rows.{edgesOf};
 ghost use Rattle.graph_row.specs.GraphRow.{blocksIn, graphIn, taskIn, Flat};
 ghost use Rattle.descend.specs.Marks.{Clear};
+ghost use Rattle.weigh_sheet.specs.Rows.{Rows};
 ghost use Rattle.build_rows.specs.Within.{answerAt, outputAt, Passes};
 use descend::reach;
 use graph_row::blocks_in;
@@ -139,14 +139,13 @@ pub fn build_in_rows(
     area: &mut [u8],
     out: &mut [u16],
     row: &mut [u16],
-    lists: &mut [u8],
-    r: usize,
+    nexts: &mut [u64],
+    has: &mut [u64],
     table: &mut [u16],
     marks: &mut [u8],
 ) -> u16
     requires { ⌜ Passes (now s) (now area) ⌝ }
-    requires { ⌜ 1 + 3 * header (now s) .blocks + header (now s) .edges ≤ length (now row) ⌝ }
-    requires { ⌜ (header (now s) .blocks ≤ suc r) × (r ≤ mostBudget) × (cellCount (header (now s) .blocks) r ≤ length (now lists)) ⌝ }
+    requires { ⌜ Rows (now s) (now row) (now nexts) (now has) ⌝ }
     requires { ⌜ (cellCount (task (now s) .blocks) (task (now s) .largest) ≤ length (now table))
         × (cellCount (task (now s) .blocks) (task (now s) .largest) ≤ length (now marks)) ⌝ }
     requires { ⌜ Clear (now marks) ⌝ }
@@ -154,7 +153,7 @@ pub fn build_in_rows(
     ensures { λ _. ⌜ now (area .exit) ≡ built (now (s .entry)) (now (area .entry)) (now (out .entry)) .area ⌝ }
     ensures { λ _. ⌜ now (out .exit) ≡ built (now (s .entry)) (now (area .entry)) (now (out .entry)) .output ⌝ }
 {
-    let a = weigh_into(s, row, lists, r, area);
+    let a = weigh_into(s, row, nexts, has, area);
     if a != 0 {
         return a;
     }

@@ -26,10 +26,10 @@ use walk::divert;
 use walk::enter;
 use walk::has_ended;
 use walk::out_of_shape;
-use weigh_sheet::LISTS;
+use weigh_sheet::BLOCK_MASKS;
+use weigh_sheet::COST_MASKS;
 use weigh_sheet::front;
 use weigh_sheet::weigh_into;
-use words::MOST_BLOCKS;
 use words::is_outside;
 use words::word_at;
 
@@ -93,8 +93,9 @@ fn guard(s: &[u16], area: &mut [u8], w: Walk, choice: u16) -> Moved
         ≡ guardedMove (now (s .entry)) (walkOf w) (record { choice = choice; area = now (area .entry) }) .area ⌝ }
 {
     let mut row = [0u16; ROW_WORDS];
-    let mut lists = [0u8; LISTS];
-    let a = weigh_into(s, &mut row, &mut lists, MOST_BLOCKS - 1, area);
+    let mut nexts = [0u64; BLOCK_MASKS];
+    let mut has = [0u64; COST_MASKS];
+    let a = weigh_into(s, &mut row, &mut nexts, &mut has, area);
     if a != 0 {
         return Moved { answer: a, walk: w };
     }

@@ -1,5 +1,5 @@
 -- The answers of weighing, half by half, and the work area after them.
--- Rests on base Orders, formats Accepted, calls Weigh and Area, weigh Flat and Lists.
+-- Rests on base Orders, formats Accepted, calls Weigh and Area, weigh Flat.
 use mathlib.Core.Path.{_≡_, refl, sym, ap, ap₂, subst, _∙_}
 use mathlib.Core.Bool.{Bool, true, false}
 use mathlib.Core.List.{List, []}
@@ -15,7 +15,7 @@ use Rattle.base.specs.Checks.{refused}
 use Rattle.base.proofs.Options.{option-none, option-some}
 use Rattle.base.proofs.Orders.{pick, tested, none-left, append-stops, append-passes, over-passes, over-stops}
 use Rattle.theory.specs.Completions.{lowOf}
-use Rattle.formats.specs.Limits.{mostBlocks, mostBudget}
+use Rattle.formats.specs.Limits.{mostBudget}
 use Rattle.formats.specs.GraphSheet.{header, budgetIn, sheetOrder, sheetRefusal}
 use Rattle.formats.proofs.Accepted.{accepted, graph-numbered}
 use Rattle.calls.specs.SheetGraph.{task, graph}
@@ -26,20 +26,11 @@ use Rattle.calls.proofs.Area.{area-cell, filled-table}
 use Rattle.cells.specs.Cells.{Within}
 use Rattle.tables.specs.Tables.{lowIn}
 use Rattle.tables.proofs.Tables.{low-in}
-use Rattle.graph_row.specs.GraphRow.{rowWords, blocksIn, graphIn}
+use Rattle.graph_row.specs.GraphRow.{blocksIn, graphIn}
 use Rattle.flatten.specs.Decoded.{Decoded}
 use Rattle.weigh.specs.States.{Ready}
 use Rattle.weigh.proofs.Flat.{ready}
-use Rattle.weigh.proofs.Lists.{few-places}
 use Rattle.calls.proofs.Weigh.{front-numbered, front-early, late-area, spared}
-
--- a row and lists for any graph have room for that of a sheet that passes
-pub any-fits : (w : List ℕ) → sheetRefusal w ≡ 0
-    → (1 + 3 * header w .blocks + header w .edges ≤ rowWords)
-    × ((header w .blocks ≤ mostBlocks) × (127 ≤ mostBudget) × (cellCount (header w .blocks) 127 ≤ mostBlocks * mostBlocks))
-any-fits w ok =
-    let F = accepted w ok .sound .form in
-    (omega (arith, F .blocks, F .edges), (F .blocks .1, omega arith, few-places (header w .blocks) 127 mostBlocks (F .blocks .1) (omega arith)))
 
 module _ (w area : List ℕ) where
   abbrev i : Weighing

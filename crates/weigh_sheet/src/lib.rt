@@ -2,16 +2,15 @@
 // Rests on graph_check, headers, flatten, weigh and look; the promise is calls Weigh.
 ghost use mathlib.Core.Path.{_≡_};
 ghost use mathlib.Core.Bool.{true, false};
-ghost use Prim.Native.Nat.{suc, _+_, _*_, _≤_};
+ghost use Prim.Native.Nat.{_+_, _*_, _≤_};
 ghost use lib.ListN.{length};
-ghost use Rattle.base.specs.Cells.{cellCount};
 ghost use Rattle.base.specs.Checks.{refused};
-ghost use Rattle.formats.specs.Limits.{mostBudget};
 ghost use Rattle.formats.specs.GraphSheet.{header, sheetRefusal};
 ghost use Rattle.calls.specs.SheetGraph.{task};
 ghost use Rattle.calls.specs.Area.{filled};
 ghost use Rattle.calls.specs.Weigh.{taskArea, frontOrder, fitOrder, weighed};
 ghost use Rattle.flatten.specs.Decoded.{Decoded};
+ghost use Rattle.weigh_sheet.specs.Rows.{Rows};
 use flatten::flatten;
 use graph_check::check_graph;
 use graph_row::ROW_WORDS;
@@ -20,9 +19,12 @@ use headers::read_header;
 use look::look_up;
 use weigh::weigh;
 use words::MOST_BLOCKS;
+use words::MOST_BUDGET;
 
-// Room for the lists of any graph, with so many places for each block.
-pub const LISTS: usize = MOST_BLOCKS * MOST_BLOCKS;
+// Room for the masks of any graph: of its blocks, and of its costs.
+pub const BLOCK_MASKS: usize = 2 * MOST_BLOCKS + 2;
+
+pub const COST_MASKS: usize = 2 * MOST_BUDGET + 2;
 
 // The first condition of 1 to 8 and 21 that holds, 0 where none does.
 pub fn front(s: &[u16], area: &[u8]) -> u16
@@ -50,19 +52,24 @@ fn decode(s: &[u16], row: &mut [u16])
     flatten(s, row, h.records, h.blocks, h.edges);
 }
 
-// Behind these: the sheet is decoded, once, into a row that is lent, and its graph weighed, with lists that are lent, of r + 1 places for
-// each block. 9 where nothing fits, else 0.
-pub fn weigh_into(s: &[u16], row: &mut [u16], lists: &mut [u8], r: usize, area: &mut [u8]) -> u16
+// Behind these: the sheet is decoded, once, into a row that is lent, and its graph weighed, with masks that are lent. 9 where nothing fits,
+// else 0.
+pub fn weigh_into(
+    s: &[u16],
+    row: &mut [u16],
+    nexts: &mut [u64],
+    has: &mut [u64],
+    area: &mut [u8],
+) -> u16
     requires { ⌜ (sheetRefusal (now s) ≡ 0) × (taskArea (task (now s)) ≤ length (now area)) ⌝ }
-    requires { ⌜ 1 + 3 * header (now s) .blocks + header (now s) .edges ≤ length (now row) ⌝ }
-    requires { ⌜ (header (now s) .blocks ≤ suc r) × (r ≤ mostBudget) × (cellCount (header (now s) .blocks) r ≤ length (now lists)) ⌝ }
+    requires { ⌜ Rows (now s) (now row) (now nexts) (now has) ⌝ }
     ensures { λ a. ⌜ a ≡ refused fitOrder (record { sheet = now (s .entry); area = now (area .entry) }) ⌝ }
     ensures { λ _. ⌜ now (area .exit) ≡ filled (task (now (s .entry)) .graph) (task (now (s .entry)) .blocks) (task (now (s .entry)) .largest) (now (area .entry)) ⌝ }
     ensures { λ _. ⌜ Decoded (header (now (s .entry))) (now (s .entry)) (now (row .exit)) ⌝ }
 {
     decode(s, row);
     let b = budget(s);
-    weigh(row, lists, r, area, b);
+    weigh(row, nexts, has, area, b);
     let x = look_up(area, b, 1, b);
     if x.low == 0 {
         return 9;
@@ -70,15 +77,16 @@ pub fn weigh_into(s: &[u16], row: &mut [u16], lists: &mut [u8], r: usize, area: 
     0
 }
 
-// The same with a row and lists for any graph.
+// The same with rows for any graph.
 fn weigh_passed(s: &[u16], area: &mut [u8]) -> u16
     requires { ⌜ (sheetRefusal (now s) ≡ 0) × (taskArea (task (now s)) ≤ length (now area)) ⌝ }
     ensures { λ a. ⌜ a ≡ refused fitOrder (record { sheet = now (s .entry); area = now (area .entry) }) ⌝ }
     ensures { λ _. ⌜ now (area .exit) ≡ filled (task (now (s .entry)) .graph) (task (now (s .entry)) .blocks) (task (now (s .entry)) .largest) (now (area .entry)) ⌝ }
 {
     let mut row = [0u16; ROW_WORDS];
-    let mut lists = [0u8; LISTS];
-    weigh_into(s, &mut row, &mut lists, MOST_BLOCKS - 1, area)
+    let mut nexts = [0u64; BLOCK_MASKS];
+    let mut has = [0u64; COST_MASKS];
+    weigh_into(s, &mut row, &mut nexts, &mut has, area)
 }
 
 // The first condition of 1 to 8, 21 and 9 that holds, 0 where none does.

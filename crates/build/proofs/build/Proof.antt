@@ -30,7 +30,7 @@ mul-if3 : tie.Need-mul-if3
 mul-if3 c =
     let n = c .before .before .before .before .read-header .result .blocks in
     let b = c .before .budget .result in
-    let k : n * (b + 1) ≤ 32 * 65536 = mul-le-mul {n₁ = n} {m₁ = b + 1} {n₂ = 32} {m₂ = 65536} (omega (arith, c .before .before .if2 .left)) (omega (arith, c .before .budget .ensures .1)) in
+    let k : n * (b + 1) ≤ 128 * 65536 = mul-le-mul {n₁ = n} {m₁ = b + 1} {n₂ = 128} {m₂ = 65536} (omega (arith, c .before .before .if2 .left)) (omega (arith, c .before .budget .ensures .1)) in
     omega (arith, k)
 
 returns-3 : tie.Need-returns-3
@@ -44,7 +44,7 @@ build-little-requires-2 c κs _ =
     let s = ap (λ (x : ℕ). n * x) (add-one b) in
     let r = ap (λ (h : Header). h .blocks) (c .before .before .before .before .before .before .before .read-header .ensures .0) in
     let q = ap₂ cellCount r (c .before .before .before .before .budget .ensures .0) in
-    record { blocks = omega (arith, r, c .before .before .before .before .before .if2 .left); cells = omega (arith, q, s, c .before .before .if3 .left) }
+    omega (arith, q, s, c .before .before .if3 .left)
 
 returns-4 : tie.Need-returns-4
 returns-4 c = c .before .before .before .before .build-little2 .ensures

@@ -5,7 +5,7 @@ use mathlib.Core.Path.{ap}
 use native.Mathlib.Omega.{arith}
 use Rattle.formats.specs.GraphSheet.{Header}
 use Rattle.formats.proofs.Accepted.{accepted}
-use Rattle.build.proofs.Local.{cells-are}
+use Rattle.build.proofs.Local.{fewer, cells-are}
 use Rattle.build.proofs.build_passed.Statement.{statement}
 use Rattle.build.proofs.build_passed.Tie as tie
 
@@ -18,17 +18,21 @@ budget-requires c κs = accepted _ (c .before .before .before .before .pre .0 .o
 cell-count-requires : tie.Need-cell-count-requires
 cell-count-requires c κs =
     let A = accepted _ (c .before .before .before .before .before .pre .0 .ok) in
-    (omega (arith, A .sound .form .blocks, ap (λ (h : Header). h .blocks) (c .before .read-header .ensures .0)), omega (arith, A .budget, c .budget .ensures .0))
+    let n = ap (λ (h : Header). h .blocks) (c .before .read-header .ensures .0) in
+    (omega (arith, n, A .sound .form .blocks), omega (arith, A .budget, c .budget .ensures .0))
 
 build-small-requires : tie.Need-build-small-requires
 build-small-requires c κs =
-    let r = c .before .before .before .before .before .before .read-header .ensures .0 in
+    let z = c .before .before .before .before .before .before .before .before .before .before in
+    let h = c .before .before .before .before .before .before .read-header .ensures .0 in
+    let b = c .before .before .before .before .before .budget .ensures .0 in
     let k = c .before .before .before .is-small .ensures (c .before .before .if1 .taken) in (
-      c .before .before .before .before .before .before .before .before .before .before .pre .0,
+      z .pre .0,
       record {
-        blocks = omega (arith, k .0, ap (λ (h : Header). h .blocks) r);
-        edges = omega (arith, k .1, ap (λ (h : Header). h .edges) r);
-        cells = omega (arith, k .2, cells-are (c .before .before .before .before .before .before .before .before .before .before .args .s .now) r (c .before .before .before .before .before .budget .ensures .0) (c .before .before .before .before .cell-count .ensures .0));
+        blocks = omega (arith, k .0, ap (λ (h : Header). h .blocks) h);
+        edges = omega (arith, k .1, ap (λ (h : Header). h .edges) h);
+        budget = omega (arith, k .2, b);
+        cells = omega (arith, k .3, cells-are (z .args .s .now) h b (c .before .before .before .before .cell-count .ensures .0));
       },
     )
 
@@ -36,10 +40,7 @@ returns : tie.Need-returns
 returns c = c .before .before .before .before .build-small .ensures
 
 build-middling-requires : tie.Need-build-middling-requires
-build-middling-requires c κs =
-    let p = c .before .before .before .before .before .before .before .before .before .before .pre in
-    let A = accepted _ (p .0 .ok) in
-    (p .0, record { blocks = p .1 .blocks; edges = A .sound .form .edges .1; cells = p .1 .cells })
+build-middling-requires c κs = let p = c .before .before .before .before .before .before .before .before .before .before .pre in (p .0, fewer (p .0) (p .1))
 
 returns-2 : tie.Need-returns-2
 returns-2 c = c .before .before .before .before .build-middling .ensures
@@ -47,4 +48,16 @@ returns-2 c = c .before .before .before .before .build-middling .ensures
 pub build-passed-spec : {M : Type 1} → statement M
 build-passed-spec =
     tie.close
-    (tie.spec read-header-requires budget-requires cell-count-requires (λ c κs. search needs) build-small-requires (λ c. search needs) (λ c. search needs) returns build-middling-requires (λ c. search needs) (λ c. search needs) returns-2)
+    (tie.spec
+    read-header-requires
+    budget-requires
+    cell-count-requires
+    (λ c κs. search needs)
+    build-small-requires
+    (λ c. search needs)
+    (λ c. search needs)
+    returns
+    build-middling-requires
+    (λ c. search needs)
+    (λ c. search needs)
+    returns-2)

@@ -5,7 +5,7 @@ use mathlib.Core.Path.{ap}
 use native.Mathlib.Omega.{arith}
 use Rattle.formats.specs.GraphSheet.{Header}
 use Rattle.formats.proofs.Accepted.{accepted}
-use Rattle.build.proofs.Local.{counted}
+use Rattle.build.proofs.Local.{fewer, cells-are}
 use Rattle.build.proofs.build_rest.Statement.{statement}
 use Rattle.build.proofs.build_rest.Tie as tie
 
@@ -18,29 +18,24 @@ budget-requires c κs = accepted _ (c .before .before .before .before .pre .ok) 
 cell-count-requires : tie.Need-cell-count-requires
 cell-count-requires c κs =
     let A = accepted _ (c .before .before .before .before .before .pre .ok) in
-    (omega (arith, A .sound .form .blocks, ap (λ (h : Header). h .blocks) (c .before .read-header .ensures .0)), omega (arith, A .budget, c .budget .ensures .0))
-
-build-shallow-requires : tie.Need-build-shallow-requires
-build-shallow-requires c κs =
-    let k = c .before .before .before in
-    (c .before .before .before .before .before .before .before .before .before .pre, counted (c .before .before .before .before .before .before .before .before .before .pre) (k .before .before .read-header .ensures .0) (k .before .budget .ensures .0) (k .cell-count .ensures .0) (c .before .before .if1 .taken))
-
-returns : tie.Need-returns
-returns c = c .before .before .before .before .build-shallow .ensures
+    let n = ap (λ (h : Header). h .blocks) (c .before .read-header .ensures .0) in
+    (omega (arith, n, A .sound .form .blocks), omega (arith, A .budget, c .budget .ensures .0))
 
 build-wide-requires : tie.Need-build-wide-requires
 build-wide-requires c κs =
-    let k = c .before .before .before .before in
-    (c .before .before .before .before .before .before .before .before .before .before .pre, counted (c .before .before .before .before .before .before .before .before .before .before .pre) (k .before .before .read-header .ensures .0) (k .before .budget .ensures .0) (k .cell-count .ensures .0) (c .before .before .if2 .taken))
+    let z = c .before .before .before .before .before .before .before .before .before in
+    let k = c .before .before .before in
+    let e = cells-are (z .args .s .now) (k .before .before .read-header .ensures .0) (k .before .budget .ensures .0) (k .cell-count .ensures .0) in
+    (z .pre, fewer (z .pre) (omega (arith, e, c .before .before .if1 .taken)))
 
-returns-2 : tie.Need-returns-2
-returns-2 c = c .before .before .before .before .build-wide .ensures
+returns : tie.Need-returns
+returns c = c .before .before .before .before .build-wide .ensures
 
 build-large-requires : tie.Need-build-large-requires
-build-large-requires c κs = c .before .before .before .before .before .before .before .before .before .before .pre
+build-large-requires c κs = c .before .before .before .before .before .before .before .before .before .pre
 
-returns-3 : tie.Need-returns-3
-returns-3 c = c .before .before .before .before .build-large .ensures
+returns-2 : tie.Need-returns-2
+returns-2 c = c .before .before .before .before .build-large .ensures
 
 pub build-rest-spec : {M : Type 1} → statement M
 build-rest-spec =
@@ -49,15 +44,11 @@ build-rest-spec =
     read-header-requires
     budget-requires
     cell-count-requires
-    build-shallow-requires
-    (λ c. search needs)
-    (λ c. search needs)
-    returns
     build-wide-requires
     (λ c. search needs)
     (λ c. search needs)
-    returns-2
+    returns
     build-large-requires
     (λ c. search needs)
     (λ c. search needs)
-    returns-3)
+    returns-2)

@@ -1,5 +1,6 @@
 -- Each limit is tested.
 -- Rests on nothing.
+use borrow.Author.Needs.{needs}
 use mathlib.Core.Path.{_≡_}
 use Prim.Native.Nat.{ℕ}
 use native.Mathlib.Omega.{arith}
@@ -14,9 +15,10 @@ returns-2 : tie.Need-returns-2
 returns-2 c e = absurd (let z : _≡_ {A = ℕ} 0 1 = cc in omega arith)
 
 returns-3 : tie.Need-returns-3
-returns-3 c e = let l = leb-true _ _ e in (omega arith, omega arith, l)
+returns-3 c e = absurd (let z : _≡_ {A = ℕ} 0 1 = cc in omega arith)
+
+returns-4 : tie.Need-returns-4
+returns-4 c e = (omega arith, omega arith, omega arith, leb-true _ _ e)
 
 pub is-small-spec : {M : Type 1} → statement M
-is-small-spec =
-    tie.close
-    (tie.spec returns returns-2 returns-3)
+is-small-spec = tie.close (tie.spec returns returns-2 returns-3 returns-4)

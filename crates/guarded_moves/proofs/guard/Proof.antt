@@ -4,7 +4,8 @@ use native.Mathlib.Omega.{arith}
 use borrow.Author.Needs.{needs}
 use Rattle.formats.proofs.Accepted.{accepted}
 use Rattle.calls.proofs.Weigh.{front-is}
-use Rattle.weigh_sheet.proofs.Answers.{any-fits, Weighs, front-passed}
+use Rattle.weigh_sheet.proofs.Answers.{Weighs, front-passed}
+use Rattle.weigh_sheet.proofs.Rows.{any-rows}
 use Rattle.walk.specs.Walks.{walkOf, replyOf}
 use Rattle.guarded_moves.proofs.Answers.{weigh-refused, area-table, shape-refused, in-shape, monitor-replies}
 use Rattle.guarded_moves.proofs.guard.Statement.{statement}
@@ -12,12 +13,12 @@ use Rattle.guarded_moves.proofs.guard.Tie as tie
 
 weigh-into-requires : tie.Need-weigh-into-requires
 weigh-into-requires c κs =
-    let z = c .before .before .before .before .before in (z .pre, any-fits _ (z .pre .0))
+    let z = c .before .before .before .before .before .before in (z .pre, any-rows (z .pre .0))
 
 -- the area is filled, and 9 was tested
 module _ (c : tie.After-weigh-into) where
   abbrev start : tie.Start
-  start = c .before .before .before .before .before .before
+  start = c .before .before .before .before .before .before .before
 
   weighs : Weighs (start .args .s .now) (start .args .area .now) (c .weigh-into .result) (c .weigh-into .last .1 .1 .1 .1 .0)
   weighs =
@@ -26,21 +27,21 @@ module _ (c : tie.After-weigh-into) where
 
 returns : tie.Need-returns
 returns c =
-    let u = c .before .before .before .before .before in
+    let u = c .before .before .before .before .before .before in
     let a = start u .args in
     weigh-refused (a .s .now) (a .area .now) (walkOf (a .w)) (a .choice) (weighs u) (c .if1 .taken)
 
 blocks-in-requires : tie.Need-blocks-in-requires
-blocks-in-requires c κs = omega (arith, c .before .before .before .before .before .before .weigh-into .ensures .1 .1 .flat .room)
+blocks-in-requires c κs = omega (arith, c .before .before .before .before .before .before .before .weigh-into .ensures .1 .1 .flat .room)
 
 budget-requires : tie.Need-budget-requires
-budget-requires c κs = accepted _ (start (c .before .before .before .before .before .before .before) .pre .0) .long
+budget-requires c κs = accepted _ (start (c .before .before .before .before .before .before .before .before) .pre .0) .long
 
 returns-2 : tie.Need-returns-2
 returns-2 c =
     let o = c .before in
     let e = o .before .before .before .before in
-    let u = e .before .before .before .before .before in
+    let u = e .before .before .before .before .before .before in
     let a = start u .args in
     shape-refused (a .s .now) (a .area .now) (walkOf (a .w)) (a .choice) (weighs u) (e .if1 .left) (u .weigh-into .ensures .1 .1)
     (o .before .before .blocks-in .ensures .0) (o .before .budget .ensures .0) (o .out-of-shape .ensures) (c .if2 .taken)
@@ -50,7 +51,7 @@ monitor-reply-requires c κs =
     let i = c .before .before in
     let o = i .before in
     let e = o .before .before .before .before in
-    let u = e .before .before .before .before .before in
+    let u = e .before .before .before .before .before .before in
     let a = start u .args in
     let D = u .weigh-into .ensures .1 .1 in
     let f = o .before .budget .ensures .0 in
@@ -65,7 +66,7 @@ returns-3 c =
     let i = c .before .before .before in
     let o = i .before in
     let e = o .before .before .before .before in
-    let u = e .before .before .before .before .before in
+    let u = e .before .before .before .before .before .before in
     let a = start u .args in
     monitor-replies (a .s .now) (a .area .now) (walkOf (a .w)) (a .choice) (weighs u) (e .if1 .left) (u .weigh-into .ensures .1 .1)
     (o .before .before .blocks-in .ensures .0) (o .before .budget .ensures .0) (o .out-of-shape .ensures) (i .if2 .left)
