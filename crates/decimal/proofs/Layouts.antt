@@ -1,16 +1,17 @@
 -- The lines of a row of words: which they are, that they hold every word, and that none is empty.
 -- Rests on formats GraphSheet and BoundedSheet, specs Writing, All.
-use mathlib.Core.Path.{_≡_, refl, sym, ap₂, _∙_}
+use mathlib.Core.Path.{_≡_, refl, sym, ap, _∙_}
 use mathlib.Core.Bool.{Bool, true, false}
 use mathlib.Core.List.{List, [], _∷_, _++_}
 use Prim.Native.Nat.{ℕ, zero, suc, _+_, _*_, _≤_, _<_}
 use native.Mathlib.Nat.{mul-zero, mul-suc}
 use native.Mathlib.Omega.{arith}
 use lib.Dec.{eqb}
-use lib.ListN.{length, getD, replicate}
+use lib.ListN.{length, replicate}
 use borrow.Author.Tests.{eqb-true, eq-eqb, ne-eqb}
-use Rattle.formats.specs.GraphSheet.{header, sheetLength}
-use Rattle.formats.specs.BoundedSheet.{heading, boundedLength}
+use Rattle.formats.specs.Limits.{leastWords}
+use Rattle.formats.specs.GraphSheet.{Header, header, sheetLength}
+use Rattle.formats.specs.BoundedSheet.{Heading, heading, boundedLength}
 use Rattle.decimal.specs.Writing.{records, layout, total}
 use Rattle.decimal.proofs.All.{AllOf, all-append, all-replicate}
 
@@ -24,18 +25,18 @@ unfolding total
 total-replicate k zero = sym (mul-zero k)
 total-replicate k (suc n) = omega (arith, total-replicate k n, mul-suc k n)
 
-records-total : (n k e : ℕ) → total (records n k e) ≡ 3 + k * n + 2 * e
+records-total : (h n k e : ℕ) → total (records h n k e) ≡ h + k * n + 2 * e
 unfolding total records
-records-total n k e =
+records-total h n k e =
     omega (arith, total-append (replicate n k) (replicate e 2), total-replicate k n, total-replicate 2 e)
 
 abbrev pub Filled : List ℕ → Type 0
 Filled ks = AllOf (λ k. 1 ≤ k) ks
 
-records-filled : (n k e : ℕ) → 1 ≤ k → Filled (records n k e)
+records-filled : (h n k e : ℕ) → 1 ≤ h → 1 ≤ k → Filled (records h n k e)
 unfolding AllOf records
-records-filled n k e l = (
-  omega arith,
+records-filled h n k e p l = (
+  p,
   all-append (λ k. 1 ≤ k) (replicate n k) (replicate e 2) (all-replicate (λ k. 1 ≤ k) n k l)
       (all-replicate (λ k. 1 ≤ k) e 2 (omega arith)),
 )
@@ -43,53 +44,58 @@ records-filled n k e l = (
 module _ (ws : List ℕ) where
   -- WHICH LAYOUT
 
-  module _ {n e : ℕ} (p : n ≡ getD ws 0 0) (q : e ≡ getD ws 1 0) where
-    pub layout-graph : length ws ≡ 3 + 2 * n + 2 * e → layout ws ≡ records n 2 e
-    unfolding layout header
+  -- neither header is shorter than the least words of a sheet
+  pub header-least : leastWords ≤ header ws .records
+  unfolding header
+  header-least = omega arith
+
+  pub heading-least : leastWords ≤ heading ws .records
+  unfolding heading
+  heading-least = omega arith
+
+  module _ {g : Header} (p : g ≡ header ws) where
+    pub layout-graph : length ws ≡ sheetLength g → layout ws ≡ records (g .records) (g .blocks) 2 (g .edges)
+    unfolding layout
     layout-graph l =
-        rw (eq-eqb (length ws) (sheetLength (header ws)) (omega arith), layout)
-        (ap₂ {C = List ℕ} (λ (x y : ℕ). records x 2 y) (sym p) (sym q))
+        rw (eq-eqb (length ws) (sheetLength (header ws)) (l ∙ ap (λ (h : Header). sheetLength h) p), layout)
+        (ap (λ (h : Header). records (h .records) (h .blocks) 2 (h .edges)) (sym p))
 
-    pub layout-bounded : (length ws ≡ 3 + 2 * n + 2 * e → ⊥) → length ws ≡ 3 + 3 * n + 2 * e → layout ws ≡ records n 3 e
-    unfolding layout header heading
-    layout-bounded g l =
-        rw (
-          ne-eqb (length ws) (sheetLength (header ws)) (λ x. g (omega arith)),
-          eq-eqb (length ws) (boundedLength (heading ws)) (omega arith),
-          layout,
-        )
-        (ap₂ {C = List ℕ} (λ (x y : ℕ). records x 3 y) (sym p) (sym q))
+    module _ (n : length ws ≡ sheetLength g → ⊥) {k : Heading} (q : k ≡ heading ws) where
+      no-graph : eqb (length ws) (sheetLength (header ws)) ≡ false
+      no-graph = ne-eqb _ _ (λ x. n (x ∙ ap (λ (h : Header). sheetLength h) (sym p)))
 
-    pub layout-other : (length ws ≡ 3 + 2 * n + 2 * e → ⊥) → (length ws ≡ 3 + 3 * n + 2 * e → ⊥) → layout ws ≡ replicate (length ws) 1
-    unfolding layout header heading
-    layout-other g b =
-        rw (
-          ne-eqb (length ws) (sheetLength (header ws)) (λ x. g (omega arith)),
-          ne-eqb (length ws) (boundedLength (heading ws)) (λ x. b (omega arith)),
-          layout,
-        )
+      pub layout-bounded : length ws ≡ boundedLength k → layout ws ≡ records (k .records) (k .copies) 3 (k .edges)
+      unfolding layout
+      layout-bounded l =
+          rw (no-graph, eq-eqb (length ws) (boundedLength (heading ws)) (l ∙ ap (λ (h : Heading). boundedLength h) q), layout)
+          (ap (λ (h : Heading). records (h .records) (h .copies) 3 (h .edges)) (sym q))
 
-  pub layout-short : length ws < 3 → layout ws ≡ replicate (length ws) 1
-  layout-short l = layout-other refl refl (λ x. omega arith) (λ x. omega arith)
+      pub layout-other : (length ws ≡ boundedLength k → ⊥) → layout ws ≡ replicate (length ws) 1
+      unfolding layout
+      layout-other m =
+          rw (no-graph, ne-eqb (length ws) (boundedLength (heading ws)) (λ x. m (x ∙ ap (λ (h : Heading). boundedLength h) (sym q))), layout)
+
+  pub layout-short : length ws < leastWords → layout ws ≡ replicate (length ws) 1
+  layout-short l = layout-other refl (λ x. omega (arith, header-least)) refl (λ x. omega (arith, heading-least))
 
   -- WHAT ALL LAYOUTS HAVE
 
   each-layout : (P : List ℕ → Type 0)
-      → ((n k e : ℕ) → 1 ≤ k → length ws ≡ 3 + k * n + 2 * e → P (records n k e)) → P (replicate (length ws) 1) → P (layout ws)
-  unfolding layout header heading
+      → ((h n k e : ℕ) → 1 ≤ h → 1 ≤ k → length ws ≡ h + k * n + 2 * e → P (records h n k e)) → P (replicate (length ws) 1) → P (layout ws)
+  unfolding layout
   each-layout P f g = go (eqb (length ws) (sheetLength (header ws))) refl (eqb (length ws) (boundedLength (heading ws))) refl
     where
       go : (a : Bool) → eqb (length ws) (sheetLength (header ws)) ≡ a → (b : Bool) → eqb (length ws) (boundedLength (heading ws)) ≡ b → P (layout ws)
-      go true x b y = rw (x, layout) (f (getD ws 0 0) 2 (getD ws 1 0) (omega arith) (eqb-true (length ws) (sheetLength (header ws)) x))
+      go true x b y = rw (x, layout) (f _ _ 2 _ (omega (arith, header-least)) (omega arith) (eqb-true (length ws) (sheetLength (header ws)) x))
       go false x true y =
-          rw (x, y, layout) (f (getD ws 0 0) 3 (getD ws 1 0) (omega arith) (eqb-true (length ws) (boundedLength (heading ws)) y))
+          rw (x, y, layout) (f _ _ 3 _ (omega (arith, heading-least)) (omega arith) (eqb-true (length ws) (boundedLength (heading ws)) y))
       go false x false y = rw (x, y, layout) g
 
   pub layout-total : total (layout ws) ≡ length ws
   layout-total =
-      each-layout (λ ks. total ks ≡ length ws) (λ n k e l q. records-total n k e ∙ sym q)
+      each-layout (λ ks. total ks ≡ length ws) (λ h n k e p l q. records-total h n k e ∙ sym q)
       (let t = total-replicate 1 (length ws) in omega arith)
 
   pub layout-filled : Filled (layout ws)
   layout-filled =
-      each-layout Filled (λ n k e l q. records-filled n k e l) (all-replicate (λ k. 1 ≤ k) (length ws) 1 (omega arith))
+      each-layout Filled (λ h n k e p l q. records-filled h n k e p l) (all-replicate (λ k. 1 ≤ k) (length ws) 1 (omega arith))

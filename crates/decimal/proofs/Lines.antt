@@ -65,25 +65,25 @@ lines-append (k ∷ xs) ys ws =
     ∙ sym (append-assoc first (linesText xs (drop k ws)) (linesText ys (drop (k + total xs) ws)))
 
 -- the header, the records, the edge records
-pub records-is : (n k e at : ℕ) (ws : List ℕ) → at ≡ 3 + total (replicate n k)
-    → linesText (records n k e) ws
-    ≡ line (map decimal (take 3 ws)) ++ (linesText (replicate n k) (behind 3 ws) ++ linesText (replicate e 2) (behind at ws))
+pub records-is : (h n k e at : ℕ) (ws : List ℕ) → at ≡ h + total (replicate n k)
+    → linesText (records h n k e) ws
+    ≡ line (map decimal (take h ws)) ++ (linesText (replicate n k) (behind h ws) ++ linesText (replicate e 2) (behind at ws))
 unfolding linesText records
-records-is n k e at ws q =
-    ap (λ (w : List ℕ). line (map decimal (take 3 ws)) ++ w)
-    (lines-append (replicate n k) (replicate e 2) (drop 3 ws)
-    ∙ ap₂ (λ (v w : List ℕ). linesText (replicate n k) v ++ linesText (replicate e 2) w) (sym (behind-all 3 ws))
-    (drop-drop (total (replicate n k)) 3 ws ∙ ap (λ (m : ℕ). drop m ws) (sym q) ∙ sym (behind-all at ws)))
+records-is h n k e at ws q =
+    ap (λ (w : List ℕ). line (map decimal (take h ws)) ++ w)
+    (lines-append (replicate n k) (replicate e 2) (drop h ws)
+    ∙ ap₂ (λ (v w : List ℕ). linesText (replicate n k) v ++ linesText (replicate e 2) w) (sym (behind-all h ws))
+    (drop-drop (total (replicate n k)) h ws ∙ ap (λ (m : ℕ). drop m ws) (sym q) ∙ sym (behind-all at ws)))
 
-pub records-length : (n k e at : ℕ) (ws : List ℕ) → at ≡ 3 + total (replicate n k)
-    → length (linesText (records n k e) ws)
-    ≡ length (line (map decimal (take 3 ws)))
-    + (length (linesText (replicate n k) (behind 3 ws)) + length (linesText (replicate e 2) (behind at ws)))
-records-length n k e at ws q =
-    let x = line (map decimal (take 3 ws)) in
-    let y = linesText (replicate n k) (behind 3 ws) in
+pub records-length : (h n k e at : ℕ) (ws : List ℕ) → at ≡ h + total (replicate n k)
+    → length (linesText (records h n k e) ws)
+    ≡ length (line (map decimal (take h ws)))
+    + (length (linesText (replicate n k) (behind h ws)) + length (linesText (replicate e 2) (behind at ws)))
+records-length h n k e at ws q =
+    let x = line (map decimal (take h ws)) in
+    let y = linesText (replicate n k) (behind h ws) in
     let z = linesText (replicate e 2) (behind at ws) in
-    omega (arith, ap length (records-is n k e at ws q), length-append x (y ++ z), length-append y z)
+    omega (arith, ap length (records-is h n k e at ws q), length-append x (y ++ z), length-append y z)
 
 module _ (ws : List ℕ) (n k : ℕ) where
   -- i lines are due, of the words from w on

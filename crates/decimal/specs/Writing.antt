@@ -9,18 +9,18 @@ use Rattle.formats.specs.GraphSheet.{header, sheetLength}
 use Rattle.formats.specs.BoundedSheet.{heading, boundedLength}
 use Rattle.formats.specs.Listing.{decimal, line}
 
--- the header's three words, n records of k words, e edge records of two
-unfoldable pub records : ℕ → ℕ → ℕ → List ℕ
-records n k e = 3 ∷ (replicate n k ++ replicate e 2)
+-- the header's h words, n records of k words, e edge records of two
+unfoldable pub records : ℕ → ℕ → ℕ → ℕ → List ℕ
+records h n k e = h ∷ (replicate n k ++ replicate e 2)
 
 -- how many words each line has: by the length, a graph sheet, a bounded sheet, or neither
 unfoldable pub layout : List ℕ → List ℕ
 layout ws =
     elim (eqb (length ws) (sheetLength (header ws))) [
-      | true ↦ records (header ws .blocks) 2 (header ws .edges)
+      | true ↦ records (header ws .records) (header ws .blocks) 2 (header ws .edges)
       | false ↦
           elim (eqb (length ws) (boundedLength (heading ws))) [
-            | true ↦ records (heading ws .copies) 3 (heading ws .edges)
+            | true ↦ records (heading ws .records) (heading ws .copies) 3 (heading ws .edges)
             | false ↦ replicate (length ws) 1
           ]
     ]

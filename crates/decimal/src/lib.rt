@@ -18,6 +18,9 @@ use digits::SPACE;
 use digits::put_byte;
 use digits::put_decimal;
 use digits::put_number;
+use headers::read_header;
+use headers::read_heading;
+use words::LEAST_WORDS;
 
 // The longest text that is read.
 pub const TEXT_LIMIT: usize = 262144;
@@ -39,8 +42,6 @@ const HASH: u8 = 35;
 const DIGIT_ZERO: u8 = 48;
 
 const DIGIT_NINE: u8 = 57;
-
-const HEADER_WORDS: usize = 3;
 
 // How far a text has been read: the bytes written, the line, the mode, and the line of the first fault.
 struct Reading {
@@ -276,15 +277,23 @@ fn put_lines(ws: &[u16], n: usize, k: usize, text: &mut [u8], at: usize) -> usiz
     p
 }
 
-// Writes the header, n records of k words and, from the word at e on, edge records of two words.
-fn put_records(ws: &[u16], n: usize, k: usize, at: usize, e: usize, text: &mut [u8]) -> usize
-    requires { ⌜ 1 ≤ k ⌝ }
-    requires { ⌜ (at ≡ 3 + total (replicate n k)) × (at + 2 * e ≤ length (now ws)) ⌝ }
-    requires { ⌜ length (linesText (records n k e) (now ws)) ≤ length (now text) ⌝ }
-    ensures { λ r. ⌜ Wrote (now (text .entry)) 0 (linesText (records n k e) (now (ws .entry))) (now (text .exit)) r ⌝ }
+// Writes the header's h words, n records of k words and, from the word at e on, edge records of two words.
+fn put_records(
+    ws: &[u16],
+    h: usize,
+    n: usize,
+    k: usize,
+    at: usize,
+    e: usize,
+    text: &mut [u8],
+) -> usize
+    requires { ⌜ (1 ≤ h) × (1 ≤ k) ⌝ }
+    requires { ⌜ (at ≡ h + total (replicate n k)) × (at + 2 * e ≤ length (now ws)) ⌝ }
+    requires { ⌜ length (linesText (records h n k e) (now ws)) ≤ length (now text) ⌝ }
+    ensures { λ r. ⌜ Wrote (now (text .entry)) 0 (linesText (records h n k e) (now (ws .entry))) (now (text .exit)) r ⌝ }
 {
-    let x = put_line(&ws[..HEADER_WORDS], text, 0);
-    let y = put_lines(&ws[HEADER_WORDS..], n, k, text, x);
+    let x = put_line(&ws[..h], text, 0);
+    let y = put_lines(&ws[h..], n, k, text, x);
     put_lines(&ws[at..], e, 2, text, y)
 }
 
@@ -294,16 +303,18 @@ pub fn decode(ws: &[u16], text: &mut [u8]) -> usize
     ensures { λ r. ⌜ Wrote (now (text .entry)) 0 (sheetText (now (ws .entry))) (now (text .exit)) r × (r ≤ length (now (text .exit))) ⌝ }
 {
     let size = ws.len();
-    if size < HEADER_WORDS {
+    if size < LEAST_WORDS {
         return put_lines(ws, size, 1, text, 0);
     }
-    let n = wide(ws[0]);
-    let e = wide(ws[1]);
-    if size == HEADER_WORDS + 2 * n + 2 * e {
-        return put_records(ws, n, 2, HEADER_WORDS + 2 * n, e, text);
+    let h = read_header(ws);
+    let blocks = h.records + 2 * h.blocks;
+    if size == blocks + 2 * h.edges {
+        return put_records(ws, h.records, h.blocks, 2, blocks, h.edges, text);
     }
-    if size == HEADER_WORDS + 3 * n + 2 * e {
-        return put_records(ws, n, 3, HEADER_WORDS + 3 * n, e, text);
+    let g = read_heading(ws);
+    let copies = g.records + 3 * g.copies;
+    if size == copies + 2 * g.edges {
+        return put_records(ws, g.records, g.copies, 3, copies, g.edges, text);
     }
     put_lines(ws, size, 1, text, 0)
 }

@@ -1,20 +1,22 @@
--- The layout is told by the length and the header's first two words; the lines are written as it says.
+-- The layout is told by the length and the headers; the lines are written as it says.
 -- Rests on digits Wrote, specs Writing, Layouts, Rooms.
-use mathlib.Core.Path.{_≡_}
+-- WHAT A CALL IS GIVEN
+use borrow.Author.Needs.{needs}
+use mathlib.Core.Path.{_≡_, ap}
 use mathlib.Core.List.{List}
 use Prim.Native.Nat.{ℕ, _+_, _*_, _<_, _≤_}
 use native.Mathlib.Omega.{arith}
-use borrow.Author.Needs.{needs}
 use lib.ListN.{length, getD, replicate}
 use Rattle.formats.specs.Limits.{wordLimit}
+use Rattle.formats.specs.GraphSheet.{Header, headerOf}
+use Rattle.formats.specs.BoundedSheet.{Heading, headingOf}
 use Rattle.digits.specs.Wrote.{Wrote}
 use Rattle.decimal.specs.Writing.{records, layout, linesText, sheetText}
-use Rattle.decimal.proofs.Layouts.{total-replicate, layout-graph, layout-bounded, layout-other, layout-short}
+use Rattle.decimal.proofs.Layouts.{total-replicate, header-least, heading-least}
+use Rattle.decimal.proofs.Layouts.{layout-graph, layout-bounded, layout-other, layout-short}
 use Rattle.decimal.proofs.Rooms.{sheet-fits, sheet-ends}
 use Rattle.decimal.proofs.decode.Statement.{statement}
 use Rattle.decimal.proofs.decode.Tie as tie
-
--- WHAT A CALL IS GIVEN
 
 module _ (k : tie.After-shared-slice-known) where
   abbrev words : List ℕ
@@ -34,28 +36,20 @@ module _ (k : tie.After-shared-slice-known) where
       → Wrote text 0 (sheetText words) new r × (r ≤ length new)
   ends e = sheet-ends words given e (k .before .pre)
 
--- where the header has been read
-module _ (w : tie.After-wide2) where
+-- where the header has been read, and where the other has
+module _ (c : tie.After-read-header) where
   abbrev known : tie.After-shared-slice-known
-  known = w .before .before .before .before .before .before
+  known = c .before .before .before
 
-  abbrev size : ℕ
-  size = length (words known)
+  abbrev first : Header
+  first = let h = c .read-header .result in headerOf (h .records) (h .blocks) (h .edges)
 
-  abbrev first : ℕ
-  first = w .before .before .wide .result
+module _ (c : tie.After-read-heading) where
+  abbrev start : tie.After-read-header
+  start = c .before .before .before .before .before
 
-  abbrev second : ℕ
-  second = w .wide2 .result
-
-  graph : size ≡ 3 + 2 * first + 2 * second → layout (words known) ≡ records first 2 second
-  graph = layout-graph (words known) (w .before .before .wide .ensures .0) (w .wide2 .ensures .0)
-
-  bounded : (size ≡ 3 + 2 * first + 2 * second → ⊥) → size ≡ 3 + 3 * first + 2 * second → layout (words known) ≡ records first 3 second
-  bounded = layout-bounded (words known) (w .before .before .wide .ensures .0) (w .wide2 .ensures .0)
-
-  other : (size ≡ 3 + 2 * first + 2 * second → ⊥) → (size ≡ 3 + 3 * first + 2 * second → ⊥) → layout (words known) ≡ replicate size 1
-  other = layout-other (words known) (w .before .before .wide .ensures .0) (w .wide2 .ensures .0)
+  abbrev second : Heading
+  second = let h = c .read-heading .result in headingOf (h .records) (h .copies) (h .edges) (h .budget)
 
 -- SHORTER THAN A HEADER
 
@@ -76,53 +70,84 @@ returns c =
 
 put-records-requires : tie.Need-put-records-requires
 put-records-requires c κs =
-    let d = c .before in
-    let e = graph (d .before) (d .if2 .taken) in
-    (omega arith, ((omega (arith, total-replicate 2 (first (d .before))), omega (arith, d .if2 .taken)), fits (known (d .before)) e))
+    let h = c .before .before .before .before .before in
+    let k = known h in
+    let q = h .read-header .ensures .0 in
+    let e = layout-graph (words k) q (c .before .if2 .taken) in (
+      (omega (arith, header-least (words k), ap (λ (h : Header). h .records) q), omega arith),
+      ((omega (arith, total-replicate 2 (first h .blocks)), omega (arith, c .before .if2 .taken)), fits k e),
+    )
 
 returns-2 : tie.Need-returns-2
 returns-2 c =
-    let d = c .before .before .before .before in
+    let h = c .before .before .before .before .before .before .before .before in
     let put = c .before .before .put-records in
-    ends (known (d .before)) (graph (d .before) (d .if2 .taken)) (put .kept .1 .1 .1 .1 .1 .0) (put .ensures)
+    ends (known h) (layout-graph (words (known h)) (h .read-header .ensures .0) (c .before .before .before .before .if2 .taken)) (put .kept .1 .1 .1 .1 .1 .1 .0) (put .ensures)
 
 -- A BOUNDED SHEET
 
 put-records-requires-2 : tie.Need-put-records-requires-2
 put-records-requires-2 c κs =
-    let d = c .before in
-    let w = d .before .before in
-    let e = bounded w (d .before .if2 .left) (d .if3 .taken) in
-    (omega arith, ((omega (arith, total-replicate 3 (first w)), omega (arith, d .if3 .taken)), fits (known w) e))
+    let g = c .before .before .before .before .before in
+    let h = start g in
+    let k = known h in
+    let q = g .read-heading .ensures .0 in
+    let e = layout-bounded (words k) (h .read-header .ensures .0) (g .before .if2 .left) q (c .before .if3 .taken) in (
+      (omega (arith, heading-least (words k), ap (λ (h : Heading). h .records) q), omega arith),
+      ((omega (arith, total-replicate 3 (second g .copies)), omega (arith, c .before .if3 .taken)), fits k e),
+    )
 
 returns-3 : tie.Need-returns-3
 returns-3 c =
-    let d = c .before .before .before .before in
-    let w = d .before .before in
+    let g = c .before .before .before .before .before .before .before .before in
+    let h = start g in
+    let k = known h in
     let put = c .before .before .put-records2 in
-    ends (known w) (bounded w (d .before .if2 .left) (d .if3 .taken)) (put .kept .1 .1 .1 .1 .1 .0) (put .ensures)
+    ends k (layout-bounded (words k) (h .read-header .ensures .0) (g .before .if2 .left) (g .read-heading .ensures .0) (c .before .before .before .before .if3 .taken))
+    (put .kept .1 .1 .1 .1 .1 .1 .0) (put .ensures)
 
 -- ANY OTHER ROW
 
 put-lines-requires-2 : tie.Need-put-lines-requires-2
 put-lines-requires-2 c κs =
-    let d = c .before in
-    let w = d .before .before in
-    let e = other w (d .before .if2 .left) (d .if3 .left) in
-    (omega arith, (omega (arith, total-replicate 1 (size w)), omega (arith, fits (known w) e)))
+    let g = c .before .before .before .before .before in
+    let h = start g in
+    let k = known h in
+    let e = layout-other (words k) (h .read-header .ensures .0) (g .before .if2 .left) (g .read-heading .ensures .0) (c .before .if3 .left) in
+    (omega arith, (omega (arith, total-replicate 1 (length (words k))), omega (arith, fits k e)))
 
 returns-4 : tie.Need-returns-4
 returns-4 c =
-    let d = c .before .before .before .before in
-    let w = d .before .before in
+    let g = c .before .before .before .before .before .before .before .before in
+    let h = start g in
+    let k = known h in
     let put = c .before .before .put-lines2 in
-    ends (known w) (other w (d .before .if2 .left) (d .if3 .left)) (put .kept .1 .1 .1 .0) (put .ensures)
+    ends k (layout-other (words k) (h .read-header .ensures .0) (g .before .if2 .left) (g .read-heading .ensures .0) (c .before .before .before .before .if3 .left))
+    (put .kept .1 .1 .1 .0) (put .ensures)
 
 pub decode-spec : {M : Type 1} → statement M
 decode-spec =
     tie.close
-    (tie.spec put-lines-requires (λ c. search needs) returns (λ c. search needs) (λ c κs. search needs) (λ c. search needs)
-    (λ c κs. search needs) (λ c. search needs) (λ c. search needs) (λ c. search needs) (λ c. search needs) (λ c. search needs)
-    (λ c. search needs) put-records-requires (λ c. search needs) returns-2 (λ c. search needs) (λ c. search needs) (λ c. search needs)
-    (λ c. search needs) (λ c. search needs) (λ c. search needs) put-records-requires-2 (λ c. search needs) returns-3
-    put-lines-requires-2 (λ c. search needs) returns-4)
+    (tie.spec
+    put-lines-requires
+    (λ c. search needs)
+    returns
+    (λ c κs. search needs)
+    (λ c. search needs)
+    (λ c. search needs)
+    (λ c. search needs)
+    (λ c. search needs)
+    put-records-requires
+    (λ c. search needs)
+    returns-2
+    (λ c κs. search needs)
+    (λ c. search needs)
+    (λ c. search needs)
+    (λ c. search needs)
+    (λ c. search needs)
+    put-records-requires-2
+    (λ c. search needs)
+    returns-3
+    put-lines-requires-2
+    (λ c. search needs)
+    returns-4)

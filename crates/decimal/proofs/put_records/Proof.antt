@@ -1,8 +1,8 @@
 -- The header's line, the records' lines, the edge records' lines.
 -- Rests on digits Due, Layouts, Lines.
+use borrow.Author.Needs.{needs}
 use mathlib.Core.Path.{sym}
 use native.Mathlib.Omega.{arith}
-use borrow.Author.Needs.{needs}
 use lib.Seq.{length-take-le}
 use Rattle.digits.proofs.Due.{wrote-as, wrote-then}
 use Rattle.decimal.proofs.Layouts.{total-replicate}
@@ -14,8 +14,8 @@ put-line-requires : tie.Need-put-line-requires
 put-line-requires c κs =
     let z = c .before .before .before .before in
     let a = z .args in (
-      omega (arith, length-take-le 3 (a .ws .now) (omega (arith, z .pre .1 .0 .0, z .pre .1 .0 .1))),
-      omega (arith, records-length (a .n) (a .k) (a .e) (a .at) (a .ws .now) (z .pre .1 .0 .0), z .pre .1 .1),
+      omega (arith, z .pre .0 .0, length-take-le (a .h) (a .ws .now) (omega (arith, z .pre .1 .0 .0, z .pre .1 .0 .1))),
+      omega (arith, records-length (a .h) (a .n) (a .k) (a .e) (a .at) (a .ws .now) (z .pre .1 .0 .0), z .pre .1 .1),
     )
 
 put-lines-requires : tie.Need-put-lines-requires
@@ -23,12 +23,12 @@ put-lines-requires c κs =
     let x = c .before .before .before .before in
     let z = x .before .before .before .before .before in
     let a = z .args in (
-      z .pre .0,
+      z .pre .0 .1,
       (
-        omega (arith, behind-length 3 (a .ws .now), z .pre .1 .0 .0, z .pre .1 .0 .1),
+        omega (arith, behind-length (a .h) (a .ws .now), z .pre .1 .0 .0, z .pre .1 .0 .1),
         omega (
           arith,
-          records-length (a .n) (a .k) (a .e) (a .at) (a .ws .now) (z .pre .1 .0 .0),
+          records-length (a .h) (a .n) (a .k) (a .e) (a .at) (a .ws .now) (z .pre .1 .0 .0),
           z .pre .1 .1,
           x .put-line .ensures .is-end,
           x .put-line .kept .1 .0,
@@ -47,7 +47,7 @@ put-lines-requires-2 c κs =
         omega (arith, behind-length (a .at) (a .ws .now), total-replicate 2 (a .e), z .pre .1 .0 .1),
         omega (
           arith,
-          records-length (a .n) (a .k) (a .e) (a .at) (a .ws .now) (z .pre .1 .0 .0),
+          records-length (a .h) (a .n) (a .k) (a .e) (a .at) (a .ws .now) (z .pre .1 .0 .0),
           z .pre .1 .1,
           x .put-line .ensures .is-end,
           x .put-line .kept .1 .0,
@@ -64,15 +64,28 @@ returns c =
     let z = x .before .before .before .before .before in
     let a = z .args in
     wrote-as (wrote-then (x .put-line .ensures) (wrote-then (y .put-lines .ensures) (c .before .before .put-lines2 .ensures)))
-    (sym (records-is (a .n) (a .k) (a .e) (a .at) (a .ws .now) (z .pre .1 .0 .0)))
+    (sym (records-is (a .h) (a .n) (a .k) (a .e) (a .at) (a .ws .now) (z .pre .1 .0 .0)))
 
 slice-aggregate-put-line : tie.Need-slice-aggregate-put-line
 slice-aggregate-put-line c =
     let z = c .before .before .before in
-    sym (length-take-le 3 (z .args .ws .now) (omega (arith, z .pre .1 .0 .0, z .pre .1 .0 .1)))
+    sym (length-take-le (z .args .h) (z .args .ws .now) (omega (arith, z .pre .1 .0 .0, z .pre .1 .0 .1)))
 
 pub put-records-spec : {M : Type 1} → statement M
 put-records-spec =
     tie.close
-    (tie.spec slice-aggregate-put-line put-line-requires (λ c. search needs) (λ c. search needs) (λ c. search needs) put-lines-requires
-    (λ c. search needs) (λ c. search needs) (λ c. search needs) (λ c. search needs) put-lines-requires-2 (λ c. search needs) returns)
+    (tie.spec
+    slice-aggregate-put-line
+    put-line-requires
+    (λ c. search needs)
+    (λ c. search needs)
+    (λ c. search needs)
+    (λ c. search needs)
+    put-lines-requires
+    (λ c. search needs)
+    (λ c. search needs)
+    (λ c. search needs)
+    (λ c. search needs)
+    put-lines-requires-2
+    (λ c. search needs)
+    returns)
