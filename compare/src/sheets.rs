@@ -58,6 +58,56 @@ pub fn parallel() -> Vec<(&'static str, Vec<u16>)> {
     ]
 }
 
+/// Blocks in a row, each with `more` edges to the exit beside the one onward: sheets of few and of many blocks, of small and of large budgets.
+pub fn chains() -> Vec<Vec<u16>> {
+    let mut sheets = Vec::new();
+    for blocks in [2u16, 3, 4, 5, 8, 9, 11, 16, 17, 32, 33, 39, 64, 128] {
+        for budget in [0, 1, 3, 10, 15, 16, 31, 32, 40, 62, 100, 127, 128, 255, 256, 500] {
+            for (more, cost) in [(0, 1), (1, 1), (3, 1), (1, 7), (1, 600)] {
+                if usize::from(blocks) * (more + 1) > 512 {
+                    continue;
+                }
+                let costs: Vec<u16> = (1..=blocks).map(|block| if block < 3 { 0 } else { cost }).collect();
+                let successors: Vec<Vec<u16>> = (1..=blocks)
+                    .map(|block| {
+                        let next = if block == 1 { if blocks > 2 { 3 } else { 2 } } else { block + 1 };
+                        let onward = if next > blocks { 2 } else { next };
+                        if block == 2 { vec![] } else { [vec![onward], vec![2; more]].concat() }
+                    })
+                    .collect();
+                sheets.push(graph_sheet(&costs, &successors, budget));
+            }
+        }
+    }
+    sheets
+}
+
+/// As many edges between as many pairs of blocks as there may be, and blocks that never fit before those that do, or none.
+pub fn dense() -> Vec<Vec<u16>> {
+    let mut sheets = Vec::new();
+    for blocks in [4u16, 8, 12, 16, 20, 23, 24, 28, 32, 48, 64, 128] {
+        for budget in [10, 50, 125, 250, 500] {
+            for (cost, dear) in [(1, 0), (3, 0), (40, 0), (1, blocks / 2)] {
+                let costs: Vec<u16> =
+                    (1..=blocks).map(|block| if block < 3 { 0 } else if block <= dear { 600 } else { cost }).collect();
+                let mut successors = vec![vec![2]; usize::from(blocks)];
+                successors[1].clear();
+                let mut edges = usize::from(blocks) - 1;
+                for target in 3..=blocks {
+                    for (index, list) in successors.iter_mut().enumerate() {
+                        if edges < 512 && index != 1 && (index != 0 || target < 7) {
+                            list.push(target);
+                            edges += 1;
+                        }
+                    }
+                }
+                sheets.push(graph_sheet(&costs, &successors, budget));
+            }
+        }
+    }
+    sheets
+}
+
 /// The deepest descent: a block of cost 1 that loops, B = 500.
 pub fn deepest() -> Vec<u16> {
     graph_sheet(&[0, 0, 1], &[vec![3], vec![], vec![3, 2]], 500)

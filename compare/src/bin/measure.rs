@@ -119,6 +119,12 @@ fn main() {
     group("refused 9 or 10", times.iter().filter(|t| t.answer > 8).collect());
     group("refused 1 to 8", times.iter().filter(|t| (1..=8).contains(&t.answer)).collect());
 
+    println!("BLOCKS IN A ROW, AND BLOCKS WITH EDGES TO ALL");
+    for (name, sheets) in [("in a row", sheets::chains()), ("to all", sheets::dense())] {
+        let times: Vec<Times> = sheets.iter().map(|sheet| build(sheet)).collect();
+        group(name, times.iter().collect());
+    }
+
     println!("THE LARGEST GRAPHS (N = 128, E = 512, B = 500)");
     let largest: Vec<(&str, Times)> =
         sheets::largest().iter().map(|(name, sheet)| (*name, build(sheet))).collect();

@@ -22,6 +22,7 @@ use words::MOST_BOUNDED_EDGES;
 use words::MOST_BUDGET;
 use words::MOST_COPIES;
 use words::field;
+use words::is_either_outside;
 use words::is_outside;
 
 // THE HEADER AND THE LENGTH
@@ -30,10 +31,14 @@ use words::is_outside;
 fn bad_limits(c: usize, f: usize) -> bool
     ensures { λ r. ⌜ r ≡ (outside leastCopies mostCopies c || outside leastBoundedEdges mostBoundedEdges f) ⌝ }
 {
-    if is_outside(LEAST_COPIES, MOST_COPIES, c) {
-        return true;
-    }
-    is_outside(LEAST_BOUNDED_EDGES, MOST_BOUNDED_EDGES, f)
+    is_either_outside(
+        LEAST_COPIES,
+        MOST_COPIES,
+        c,
+        LEAST_BOUNDED_EDGES,
+        MOST_BOUNDED_EDGES,
+        f,
+    )
 }
 
 // The clauses that go by the header and the length alone.

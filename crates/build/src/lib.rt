@@ -27,7 +27,7 @@ const FEW_BLOCKS: usize = 16;
 
 const FEW_EDGES: usize = 64;
 
-const LITTLE_BUDGET: usize = 31;
+const LITTLE_BUDGET: usize = 63;
 
 const FEW_CELLS: usize = 256;
 
@@ -38,7 +38,7 @@ const MANY_CELLS: usize = 16384;
 // For a small sheet.
 fn build_small(s: &[u16], area: &mut [u8], out: &mut [u16]) -> u16
     requires { ⌜ Passes (now s) (now area) ⌝ }
-    requires { ⌜ Within 16 64 31 256 (now s) ⌝ }
+    requires { ⌜ Within 16 64 63 256 (now s) ⌝ }
     ensures { λ a. ⌜ a ≡ built (now (s .entry)) (now (area .entry)) (now (out .entry)) .answer ⌝ }
     ensures { λ _. ⌜ now (area .exit) ≡ built (now (s .entry)) (now (area .entry)) (now (out .entry)) .area ⌝ }
     ensures { λ _. ⌜ now (out .exit) ≡ built (now (s .entry)) (now (area .entry)) (now (out .entry)) .output ⌝ }
@@ -138,7 +138,7 @@ fn build_large(s: &[u16], area: &mut [u8], out: &mut [u16]) -> u16
 
 // Whether a sheet is small.
 fn is_small(n: usize, m: usize, b: usize, cells: usize) -> bool
-    ensures { λ r. ⌜ (r ≡ true → (n ≤ 16) × (m ≤ 64) × (b ≤ 31) × (cells ≤ 256)) ⌝ }
+    ensures { λ r. ⌜ (r ≡ true → (n ≤ 16) × (m ≤ 64) × (b ≤ 63) × (cells ≤ 256)) ⌝ }
 {
     if FEW_BLOCKS < n {
         return false;

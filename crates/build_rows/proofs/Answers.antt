@@ -12,7 +12,7 @@ use Rattle.base.proofs.Truth.{or-l, or-r}
 use Rattle.theory.specs.Tasks.{Task, copiesIn}
 use Rattle.formats.specs.Limits.{mostCopies, mostBoundedEdges}
 use Rattle.formats.specs.BoundedSheet.{Row, edgeCount, copyWords, edgeWords, recordWords, sheetWords, heading}
-use Rattle.formats.proofs.Reading.{copyWords-length, edgeWords-length}
+use Rattle.formats.proofs.Reading.{records-length}
 use Rattle.calls.specs.SheetGraph.{rowOf, rowsOf, boundedFor}
 use Rattle.calls.specs.Build.{tooMany}
 use Rattle.tables.specs.Rows.{edgesOf}
@@ -20,10 +20,6 @@ use Rattle.tables.proofs.Rows.{edges-are}
 use Rattle.write.specs.Put.{putWords}
 use Rattle.write.proofs.Put.{put-more}
 use Rattle.build_rows.specs.Within.{answerAt}
-
--- the length of the records, and of a written sheet
-pub records-length : (rs : List Row) → length (recordWords rs) ≡ 3 * length rs + 2 * edgeCount rs
-records-length rs = omega (arith, length-append (copyWords 1 rs) (edgeWords 1 rs), copyWords-length 1 rs, edgeWords-length 1 rs)
 
 -- words put at the front of a row
 put-front : (out ws : List ℕ) → putWords out 0 ws ≡ ws ++ drop (length ws) out

@@ -11,7 +11,7 @@ use Rattle.base.specs.Lists.{each, from, chosen}
 use Rattle.base.proofs.Lists.{chosen-le, from-length}
 use Rattle.formats.specs.Words.{word, follow}
 use Rattle.formats.specs.BoundedSheet.{Row, edgeRecords, firstEdge, copyWords, edgeWords, edgeCount, recordWords, sheetWords}
-use Rattle.formats.specs.BoundedSheet.{Heading, heading, blockAt, lowAt, firstAt, targetAt, nextAt, chainAt, targetsAt}
+use Rattle.formats.specs.BoundedSheet.{Heading, heading, boundedLength, blockAt, lowAt, firstAt, targetAt, nextAt, chainAt, targetsAt}
 
 -- three words a row
 pub copyWords-length : (e : ℕ) (rs : List Row) → length (copyWords e rs) ≡ 3 * length rs
@@ -129,6 +129,15 @@ pub record Laid (h : Heading) (w : List ℕ) (rs : List Row) : Type 0 where
   pub records : h .records ≡ length front
   pub copies : h .copies ≡ length rs
   pub edges : h .edges ≡ edgeCount rs
+
+-- the length of its records, and its own by its header
+pub records-length : (rs : List Row) → length (recordWords rs) ≡ 3 * length rs + 2 * edgeCount rs
+records-length rs = omega (arith, length-append (copyWords 1 rs) (edgeWords 1 rs), copyWords-length 1 rs, edgeWords-length 1 rs)
+
+pub laid-length : {h : Heading} {w : List ℕ} {rs : List Row} → Laid h w rs → length w ≡ boundedLength h
+laid-length {rs = rs} L =
+    ap length (L .words)
+    ∙ omega (arith, length-append (L .front) (recordWords rs), records-length rs, L .records, L .copies, L .edges)
 
 -- what its i-th row reads as
 pub record Reads (h : Heading) (w : List ℕ) (rs : List Row) (i : ℕ) (r : Row) : Type 0 where

@@ -23,7 +23,7 @@ use Rattle.formats.specs.BoundedSheet.{blockAt, lowAt, firstAt, targetAt
 use Rattle.formats.specs.Rule11.{tooShort, badLimits, wrongLength, largeBudget, badBlocks, badLows, badCopyOrder, copiesOf}
 use Rattle.formats.specs.Rule11.{notOneOf, badExit, badEdgeOrder, badTargetWords, boundedOrder, boundedRefusal, Formed, Ruled}
 use Rattle.base.proofs.Orders.{Numbered, passed, none-left, not-outside}
-use Rattle.formats.proofs.Reading.{Laid, laid, Reads, reads, met, copyWords-length, edgeWords-length}
+use Rattle.formats.proofs.Reading.{Laid, laid, Reads, reads, met, laid-length}
 
 -- what one row of a sheet of n copies with a budget b may say
 pub record RowFits (n b : ℕ) (r : Row) : Type 0 where
@@ -72,19 +72,6 @@ module _ (h : Heading) (s : List ℕ) (rs : List Row) (L : Laid h s rs) (F : Row
       let l = from-e (h .copies) 1 i m in
       let r = chosen-some rs i (l .0) (omega (arith, L .copies)) in
       record { row = r .0; here = r .1; reading = reads h s rs L i (r .0) (r .1) }
-
-  size-fits : length s ≡ boundedLength h
-  size-fits =
-      ap length (L .words) ∙ omega (
-        arith,
-        length-append (L .front) (copyWords 1 rs ++ edgeWords 1 rs),
-        length-append (copyWords 1 rs) (edgeWords 1 rs),
-        copyWords-length 1 rs,
-        edgeWords-length 1 rs,
-        L .records,
-        L .copies,
-        L .edges,
-      )
 
   blocks-fit : badBlocks h s ≡ false
   unfolding badBlocks
@@ -158,7 +145,7 @@ module _ (h : Heading) (s : List ℕ) (rs : List Row) (L : Laid h s rs) (F : Row
   pub records-fit : (leastCopies ≤ length rs) × (length rs ≤ mostCopies) → (leastBoundedEdges ≤ edgeCount rs) × (edgeCount rs ≤ mostBoundedEdges)
       → Ruled h s
   records-fit few edges = record {
-    form = record { copies = omega (arith, few, L .copies); edges = omega (arith, edges, L .edges); size = size-fits };
+    form = record { copies = omega (arith, few, L .copies); edges = omega (arith, edges, L .edges); size = laid-length L };
     blocks = blocks-fit;
     lows = lows-fit;
     order = order-fits;

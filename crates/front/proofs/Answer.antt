@@ -17,7 +17,7 @@ use Rattle.formats.specs.GraphSheet.{budgetIn, header, sheetOrder, sheetRefusal
 use Rattle.formats.specs.BoundedSheet.{Row, copyWords, edgeWords, sheetWords, heading, boundedLength}
 use Rattle.formats.specs.Rule11.{boundedRefusal}
 use Rattle.formats.proofs.Accepted.{accepted, graph-numbered}
-use Rattle.formats.proofs.Reading.{copyWords-length, edgeWords-length, Laid, laid}
+use Rattle.formats.proofs.Reading.{laid, laid-length}
 use Rattle.theory.specs.Tasks.{copiesIn}
 use Rattle.calls.specs.SheetGraph.{task, rowsOf, boundedSheet}
 use Rattle.calls.specs.Area.{areaSize}
@@ -34,20 +34,7 @@ use Rattle.front.specs.Front.{mostWords, frontSheet}
 -- THE LENGTH of a bounded sheet, by its header
 sheet-is : (w : List ℕ) → length (boundedSheet w) ≡ boundedLength (heading (boundedSheet w))
 unfolding boundedSheet
-sheet-is w =
-    let rs : List Row = rowsOf (task w .graph) (copiesIn (task w)) in
-    let L : Laid (heading (boundedSheet w)) (boundedSheet w) rs = laid (task w .largest) rs in
-    ap length (L .words)
-    ∙ omega (
-      arith,
-      length-append (L .front) (copyWords 1 rs ++ edgeWords 1 rs),
-      length-append (copyWords 1 rs) (edgeWords 1 rs),
-      copyWords-length 1 rs,
-      edgeWords-length 1 rs,
-      L .records,
-      L .copies,
-      L .edges,
-    )
+sheet-is w = laid-length (laid (task w .largest) (rowsOf (task w .graph) (copiesIn (task w))))
 
 -- the records stand behind as many words as any sheet has
 records-at : (w : List ℕ) → heading w .records ≡ leastWords

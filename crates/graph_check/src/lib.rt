@@ -21,6 +21,7 @@ use words::MOST_BLOCKS;
 use words::MOST_BUDGET;
 use words::MOST_EDGES;
 use words::field;
+use words::is_either_outside;
 use words::is_outside;
 
 // THE FORM: 1 to 4
@@ -29,10 +30,7 @@ use words::is_outside;
 fn bad_counts(n: usize, m: usize) -> bool
     ensures { λ r. ⌜ r ≡ (outside leastBlocks mostBlocks n || outside leastEdges mostEdges m) ⌝ }
 {
-    if is_outside(LEAST_BLOCKS, MOST_BLOCKS, n) {
-        return true;
-    }
-    is_outside(LEAST_EDGES, MOST_EDGES, m)
+    is_either_outside(LEAST_BLOCKS, MOST_BLOCKS, n, LEAST_EDGES, MOST_EDGES, m)
 }
 
 // Conditions 1 to 4, by the length and the header alone.

@@ -1,6 +1,7 @@
 // The words of a row, by place and by record, and the limits of both kinds of sheet; below the public calls.
 // Rests on formats: Limits, Words.
 ghost use mathlib.Core.Path.{_≡_};
+ghost use mathlib.Core.Bool.{_||_};
 ghost use Prim.Native.Nat.{_+_, _*_, _<_, _≤_};
 ghost use lib.ListN.{length};
 ghost use Rattle.base.specs.Checks.{outside};
@@ -41,6 +42,23 @@ pub fn is_outside(lo: usize, hi: usize, n: usize) -> bool
         return true;
     }
     hi < n
+}
+
+// One number outside its limits, or another outside its own.
+pub fn is_either_outside(
+    lo: usize,
+    hi: usize,
+    n: usize,
+    least: usize,
+    most: usize,
+    m: usize,
+) -> bool
+    ensures { λ r. ⌜ r ≡ (outside lo hi n || outside least most m) ⌝ }
+{
+    if is_outside(lo, hi, n) {
+        return true;
+    }
+    is_outside(least, most, m)
 }
 
 // One word of a row.

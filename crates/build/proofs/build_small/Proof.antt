@@ -9,7 +9,7 @@ use Rattle.build.proofs.build_small.Tie as tie
 build-in-rows-requires : tie.Need-build-in-rows-requires
 build-in-rows-requires c κs =
     let p = c .before .before .before .before .before .before .before .before .before .before .pre in
-    rows-serve 16 64 31 256 113 34 64 (p .0) (p .1) (omega arith) (omega arith) (omega arith)
+    rows-serve 16 64 63 256 113 34 128 (p .0) (p .1) (omega arith) (omega arith) (omega arith)
 
 returns : tie.Need-returns
 returns c = c .before .before .before .before .before .before .before .before .before .build-in-rows .ensures
