@@ -11,7 +11,7 @@ use lib.ListN.{length, drop, length-append, length-map}
 use Rattle.base.proofs.Truth.{or-l, or-r}
 use Rattle.theory.specs.Tasks.{Task, copiesIn}
 use Rattle.formats.specs.Limits.{mostCopies, mostBoundedEdges}
-use Rattle.formats.specs.BoundedSheet.{Row, edgeCount, copyWords, edgeWords, recordWords, sheetWords, heading}
+use Rattle.formats.specs.BoundedSheet.{Row, edgeCount, recordWords, sheetWords, heading}
 use Rattle.formats.proofs.Reading.{records-length}
 use Rattle.calls.specs.SheetGraph.{rowOf, rowsOf, boundedFor}
 use Rattle.calls.specs.Build.{tooMany}

@@ -19,8 +19,8 @@ use Rattle.theory.specs.Tasks.{Task, taskAt, copiesIn}
 use Rattle.theory.specs.Copies.{candidates}
 use Rattle.theory.proofs.Completions.{completes-complete}
 use Rattle.theory.proofs.Reach.{copy-sound, candidate}
-use Rattle.formats.specs.Limits.{mostBlocks, mostBudget}
-use Rattle.formats.specs.GraphSheet.{Header, header, budgetIn}
+use Rattle.formats.specs.Limits.{mostBudget}
+use Rattle.formats.specs.GraphSheet.{header, budgetIn}
 use Rattle.formats.proofs.Accepted.{accepted}
 use Rattle.calls.specs.SheetGraph.{task, graph}
 use Rattle.calls.specs.Area.{filled, Table}
@@ -31,7 +31,6 @@ use Rattle.tables.specs.Tables.{marked, markedCopies}
 use Rattle.graph_row.specs.GraphRow.{blocksIn, graphIn, taskIn, Flat}
 use Rattle.graph_row.proofs.Setting.{row-setting}
 use Rattle.flatten.specs.Decoded.{Decoded}
-use Rattle.descend.specs.Marks.{Clear}
 use Rattle.write.specs.Marked.{Marked}
 use Rattle.build_rows.specs.Within.{Passes}
 

@@ -18,7 +18,7 @@ use Rattle.base.proofs.Lists.{each-e, from-i, from-e, chosen-map, chosen-some, 
 use Rattle.base.proofs.Copies.{Rising, rising-chosen}
 use Rattle.base.specs.Checks.{outside}
 use Rattle.formats.specs.Limits.{mostBlocks, mostBudget, leastCopies, mostCopies, leastBoundedEdges, mostBoundedEdges}
-use Rattle.formats.specs.BoundedSheet.{Row, firstEdge, copyWords, edgeWords, edgeCount, sheetWords, Heading, heading, boundedLength}
+use Rattle.formats.specs.BoundedSheet.{Row, firstEdge, edgeCount, sheetWords, Heading, heading, boundedLength}
 use Rattle.formats.specs.BoundedSheet.{blockAt, lowAt, firstAt, targetAt, copyAt, chainAt, targetsAt}
 use Rattle.formats.specs.Rule11.{tooShort, badLimits, wrongLength, largeBudget, badBlocks, badLows, badCopyOrder, copiesOf}
 use Rattle.formats.specs.Rule11.{notOneOf, badExit, badEdgeOrder, badTargetWords, boundedOrder, boundedRefusal, Formed, Ruled}

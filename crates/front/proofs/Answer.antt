@@ -14,7 +14,7 @@ use Rattle.base.proofs.Truth.{or-false}
 use Rattle.base.proofs.Orders.{pick, tested, none-left, append-stops, append-passes, over-stops, over-passes}
 use Rattle.formats.specs.Limits.{leastWords, mostCopies, mostBoundedEdges, mostCells}
 use Rattle.formats.specs.GraphSheet.{budgetIn, header, sheetOrder, sheetRefusal}
-use Rattle.formats.specs.BoundedSheet.{Row, copyWords, edgeWords, sheetWords, heading, boundedLength}
+use Rattle.formats.specs.BoundedSheet.{sheetWords, heading, boundedLength}
 use Rattle.formats.specs.Rule11.{boundedRefusal}
 use Rattle.formats.proofs.Accepted.{accepted, graph-numbered}
 use Rattle.formats.proofs.Reading.{laid, laid-length}

@@ -61,28 +61,24 @@ module _ (w area : List ℕ) (s : Walk) (k : ℕ) where
     weigh-refused n =
         guarded (record { answer = a; after = s }) (sheet-refuses machine weighing-of weighOrder weigh-numbered onGraph input (W .0) n) area-is
 
-    -- it is 0, and the row holds the sheet's graph
-    module _ (z : a ≡ 0) {row : List ℕ} (D : Decoded (header w) w row) where
+    -- it is 0, the area is filled, and the row holds the sheet's graph
+    module _ (z : a ≡ 0) (f : after ≡ filled (graph w) (header w .blocks) (budgetIn w) area) {row : List ℕ} (D : Decoded (header w) w row) where
       passed : Passed w area
       unfolding weighed
       passed = weighs-e lent (sym (W .0) ∙ z)
 
-      filled-is : after ≡ filled (graph w) (header w .blocks) (budgetIn w) area
-      unfolding any member from
-      filled-is = area-is ∙ sym (late-area w area a (ap beforeWeighing z ∙ spared 0))
-
       late : (c : ℕ) → beforeWeighing c ≡ false → after ≡ areaAfter (task w) c area
-      late c f = filled-is ∙ late-area w area c f
+      late c g = f ∙ late-area w area c g
 
       pub area-table : {b : ℕ} → b ≡ budgetIn w → Table (graphIn row) (blocksIn row) b after
       unfolding taskArea
       area-table e =
-          rw (D .same, D .blocks, e, filled-is) (filled-table (graph w) (header w .blocks) (budgetIn w) area (passed .room))
+          rw (D .same, D .blocks, e, f) (filled-table (graph w) (header w .blocks) (budgetIn w) area (passed .room))
 
       -- the walk's shape, as it is tested
-      module _ {n b : ℕ} {t : Bool} (e : n ≡ blocksIn row) (f : b ≡ budgetIn w) (g : t ≡ outOfShape n 2 b s) where
+      module _ {n b : ℕ} {t : Bool} (e : n ≡ blocksIn row) (q : b ≡ budgetIn w) (g : t ≡ outOfShape n 2 b s) where
         tested-is : {c : Bool} → t ≡ c → outOfShape (header w .blocks) 2 (budgetIn w) s ≡ c
-        tested-is h = rw (e, D .blocks, f) at (sym g ∙ h)
+        tested-is h = rw (e, D .blocks, q) at (sym g ∙ h)
 
         sheet-shape : t ≡ false → InShape (header w .blocks) 2 (budgetIn w) s
         sheet-shape h = shape-of (header w .blocks) 2 (budgetIn w) s (tested-is h)
@@ -94,10 +90,10 @@ module _ (w area : List ℕ) (s : Walk) (k : ℕ) where
             (shape-refuses machine weighing-of weighOrder weigh-numbered onGraph input (sym (W .0) ∙ z) (tested-is h)) (late 33 (spared 33))
 
         pub in-shape : t ≡ false → InShape (blocksIn row) 2 b s
-        in-shape h = rw (D .blocks, f) (sheet-shape h)
+        in-shape h = rw (D .blocks, q) (sheet-shape h)
 
         pub monitor-replies : t ≡ false → (m : Reply Walk) → m ≡ reply (monitor (graphIn row) b) s k → Guarded (m .answer) (m .after) after
         monitor-replies h m x =
-            let y : m ≡ reply (monitor (graph w) (budgetIn w)) s k = rw (D .same, f) at x in
+            let y : m ≡ reply (monitor (graph w) (budgetIn w)) s k = rw (D .same, q) at x in
             let o = guarded-as w given s (passed .start) (passed .ok) (passed .room) (passed .opens) (sheet-shape h) in
             guarded m (o ∙ sym y) (late (m .answer) (ap (λ (v : Reply Walk). beforeWeighing (v .answer)) y ∙ reply-late _ s k))

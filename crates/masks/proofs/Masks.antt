@@ -176,7 +176,6 @@ module _ (a : List ℕ) (i : ℕ) (b : List ℕ) (j : ℕ) where
           no = λ t. absurd (clash (sym t ∙ ap not (ne-eqb _ _ z)));
         }
 
-
 -- A ROW OF ZEROS has nothing in a mask
 pub zeros-empty : (n : ℕ) → Empty (replicate n 0)
 unfolding Empty

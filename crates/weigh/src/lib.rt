@@ -104,14 +104,7 @@ fn settle(
 }
 
 // All blocks' cost c: the start last, whose successors have the same cost.
-fn weigh_cost(
-    row: &[u16],
-    nexts: &[u64],
-    has: &mut [u64],
-    area: &mut [u8],
-    b: usize,
-    c: usize,
-)
+fn weigh_cost(row: &[u16], nexts: &[u64], has: &mut [u64], area: &mut [u8], b: usize, c: usize)
     requires { ⌜ Flat (now row) ⌝ }
     requires { ⌜ Kept (graphIn (now row)) (blocksIn (now row)) b (now nexts) (now has) (now area) ⌝ }
     requires { ⌜ c ≤ b ⌝ }

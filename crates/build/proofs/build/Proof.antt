@@ -52,4 +52,6 @@ returns-4 c = c .before .before .before .before .build-little2 .ensures
 pub build-spec : {M : Type 1} → statement M
 build-spec =
     tie.close
-    (tie.spec build-little-requires (λ c. search needs) (λ c. search needs) returns read-header-requires (λ c κs. search needs) (λ c. search needs) (λ c. search needs) returns-2 budget-requires (λ c. search needs) mul-if3 (λ c κs. search needs) (λ c. search needs) (λ c. search needs) returns-3 build-little-requires-2 (λ c. search needs) (λ c. search needs) returns-4)
+    (tie.spec build-little-requires (λ c. search needs) (λ c. search needs) returns read-header-requires (λ c κs. search needs)
+    (λ c. search needs) (λ c. search needs) returns-2 budget-requires (λ c. search needs) mul-if3 (λ c κs. search needs)
+    (λ c. search needs) (λ c. search needs) returns-3 build-little-requires-2 (λ c. search needs) (λ c. search needs) returns-4)

@@ -49,4 +49,5 @@ returns-3 c =
 pub write-numbered-spec : {M : Type 1} → statement M
 write-numbered-spec =
     tie.close
-    (tie.spec returns (λ c. search needs) (λ c. search needs) (λ c. search needs) (λ c. search needs) returns-2 write-sheet-requires (λ c. search needs) returns-3)
+    (tie.spec returns (λ c. search needs) (λ c. search needs) (λ c. search needs) (λ c. search needs) returns-2 write-sheet-requires
+    (λ c. search needs) returns-3)

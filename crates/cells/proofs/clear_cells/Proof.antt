@@ -53,4 +53,5 @@ returns c =
 pub clear-cells-spec : {M : Type 1} → statement M
 clear-cells-spec =
     tie.close
-    (tie.spec Inv-loop μ-loop (λ c. search needs) mul-m loop-holds slice-write-area add-i (λ c. search needs) loop-again same-length returns)
+    (tie.spec Inv-loop μ-loop (λ c. search needs) mul-m loop-holds slice-write-area add-i (λ c. search needs) loop-again same-length
+    returns)

@@ -62,4 +62,5 @@ returns-2 c =
 pub copy-targets-spec : {M : Type 1} → statement M
 copy-targets-spec =
     tie.close
-    (tie.spec Inv-loop μ-loop (λ c. search needs) loop-holds same-length returns field-requires (λ c. search needs) (λ c. search needs) slice-write-row (λ c. search needs) field-requires-2 (λ c. search needs) (λ c. search needs) loop-again same-length-2 returns-2)
+    (tie.spec Inv-loop μ-loop (λ c. search needs) loop-holds same-length returns field-requires (λ c. search needs) (λ c. search needs)
+    slice-write-row (λ c. search needs) field-requires-2 (λ c. search needs) (λ c. search needs) loop-again same-length-2 returns-2)

@@ -59,4 +59,5 @@ returns-4 c = (out (c .before .loop .inv) (omega arith), omega arith)
 pub nth-target-spec : {M : Type 1} → statement M
 nth-target-spec =
     tie.close
-    (tie.spec Inv-loop μ-loop returns (λ c. search needs) loop-holds returns-2 field-requires add-result returns-3 field-requires-2 sub-i (λ c. search needs) (λ c. search needs) loop-again returns-4)
+    (tie.spec Inv-loop μ-loop returns (λ c. search needs) loop-holds returns-2 field-requires add-result returns-3 field-requires-2
+    sub-i (λ c. search needs) (λ c. search needs) loop-again returns-4)

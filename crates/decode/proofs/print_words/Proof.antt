@@ -17,4 +17,5 @@ slice-aggregate-write-all c = sym (length-take-le _ _ (c .before .before .decode
 pub print-words-spec : {M : Type 1} → statement M
 print-words-spec =
     tie.close
-    (tie.spec (λ c. search needs) decode-requires (λ c. search needs) slice-aggregate-write-all (λ c κs. search needs) (λ c. search needs))
+    (tie.spec (λ c. search needs) decode-requires (λ c. search needs) slice-aggregate-write-all (λ c κs. search needs)
+    (λ c. search needs))

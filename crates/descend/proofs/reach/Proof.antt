@@ -76,5 +76,6 @@ returns-2 c =
 pub reach-spec : {M : Type 1} → statement M
 reach-spec =
     tie.close
-    (tie.spec entry-requires sub-low mark-requires (λ c κs. search needs) (λ c. search needs) returns (λ c. search needs) (λ c. search needs)
+    (tie.spec entry-requires sub-low mark-requires (λ c κs. search needs) (λ c. search needs) returns (λ c. search needs)
+    (λ c. search needs)
     follow-requires (λ c. search needs) returns-2)

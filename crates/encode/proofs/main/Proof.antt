@@ -21,6 +21,7 @@ slice-aggregate-write-all-2 c = sym (length-take-le _ _ (c .before .before .befo
 pub main-spec : {M : Type 1} → statement M
 main-spec =
     tie.close
-    (tie.spec (λ c. search needs) (λ c κs. search needs) (λ c. search needs) (λ c κs. search needs) (λ c. search needs) (λ c. search needs)
+    (tie.spec (λ c. search needs) (λ c κs. search needs) (λ c. search needs) (λ c κs. search needs) (λ c. search needs)
+    (λ c. search needs)
     (λ c. search needs) (λ c. search needs) encode-requires (λ c κs. search needs) (λ c. search needs) (λ c. search needs)
     slice-aggregate-write-all-2 (λ c κs. search needs) (λ c. search needs))

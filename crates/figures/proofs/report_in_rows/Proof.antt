@@ -55,5 +55,6 @@ returns-2 c =
 pub report-in-rows-spec : {M : Type 1} → statement M
 report-in-rows-spec =
     tie.close
-    (tie.spec (λ c κs. search needs) (λ c. search needs) report-refused-requires (λ c. search needs) (λ c. search needs) (λ c. search needs)
+    (tie.spec (λ c κs. search needs) (λ c. search needs) report-refused-requires (λ c. search needs) (λ c. search needs)
+    (λ c. search needs)
     (λ c. search needs) returns report-built-requires (λ c. search needs) (λ c. search needs) (λ c. search needs) (λ c. search needs) returns-2)

@@ -114,4 +114,6 @@ returns c =
 pub flatten-spec : {M : Type 1} → statement M
 flatten-spec =
     tie.close
-    (tie.spec Inv-loop μ-loop mul-base add-base cast-row (λ c. search needs) mul-place add-place loop-holds field-requires copy-targets-requires field-requires-2 (λ c. search needs) put-block-requires (λ c. search needs) (λ c. search needs) loop-again same-length returns)
+    (tie.spec Inv-loop μ-loop mul-base add-base cast-row (λ c. search needs) mul-place add-place loop-holds field-requires
+    copy-targets-requires field-requires-2 (λ c. search needs) put-block-requires (λ c. search needs) (λ c. search needs) loop-again
+    same-length returns)

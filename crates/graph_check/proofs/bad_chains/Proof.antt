@@ -55,4 +55,5 @@ returns-2 c =
 pub bad-chains-spec : {M : Type 1} → statement M
 bad-chains-spec =
     tie.close
-    (tie.spec Inv-loop μ-loop mul-base add-base loop-holds field-requires (λ c. search needs) mark-chain-requires returns (λ c. search needs) (λ c. search needs) loop-again (λ c. search needs) (λ c κs. search needs) returns-2)
+    (tie.spec Inv-loop μ-loop mul-base add-base loop-holds field-requires (λ c. search needs) mark-chain-requires returns
+    (λ c. search needs) (λ c. search needs) loop-again (λ c. search needs) (λ c κs. search needs) returns-2)

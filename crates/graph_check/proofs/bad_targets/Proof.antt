@@ -51,4 +51,5 @@ returns-2 c = none (c .before .loop .inv) (c .loop-test .left)
 pub bad-targets-spec : {M : Type 1} → statement M
 bad-targets-spec =
     tie.close
-    (tie.spec Inv-loop μ-loop mul-base add-base loop-holds field-requires (λ c κs. search needs) returns (λ c. search needs) (λ c. search needs) loop-again returns-2)
+    (tie.spec Inv-loop μ-loop mul-base add-base loop-holds field-requires (λ c κs. search needs) returns (λ c. search needs)
+    (λ c. search needs) loop-again returns-2)

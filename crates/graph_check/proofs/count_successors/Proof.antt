@@ -43,4 +43,5 @@ returns-3 c =
 pub count-successors-spec : {M : Type 1} → statement M
 count-successors-spec =
     tie.close
-    (tie.spec (λ c κs. search needs) returns read-header-requires (λ c κs. search needs) returns-2 successor-count-requires (λ c. search needs) returns-3)
+    (tie.spec (λ c κs. search needs) returns read-header-requires (λ c κs. search needs) returns-2 successor-count-requires
+    (λ c. search needs) returns-3)

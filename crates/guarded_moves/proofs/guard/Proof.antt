@@ -43,7 +43,7 @@ returns-2 c =
     let e = o .before .before .before .before in
     let u = e .before .before .before .before .before .before in
     let a = start u .args in
-    shape-refused (a .s .now) (a .area .now) (walkOf (a .w)) (a .choice) (weighs u) (e .if1 .left) (u .weigh-into .ensures .1 .1)
+    shape-refused (a .s .now) (a .area .now) (walkOf (a .w)) (a .choice) (weighs u) (e .if1 .left) (u .weigh-into .ensures .1 .0) (u .weigh-into .ensures .1 .1)
     (o .before .before .blocks-in .ensures .0) (o .before .budget .ensures .0) (o .out-of-shape .ensures) (c .if2 .taken)
 
 monitor-reply-requires : tie.Need-monitor-reply-requires
@@ -56,8 +56,8 @@ monitor-reply-requires c κs =
     let D = u .weigh-into .ensures .1 .1 in
     let f = o .before .budget .ensures .0 in
     let most = accepted _ (start u .pre .0) .budget in
-    let table = area-table (a .s .now) (a .area .now) (walkOf (a .w)) (a .choice) (weighs u) (e .if1 .left) D f in
-    let shape = in-shape (a .s .now) (a .area .now) (walkOf (a .w)) (a .choice) (weighs u) (e .if1 .left) D
+    let table = area-table (a .s .now) (a .area .now) (walkOf (a .w)) (a .choice) (weighs u) (e .if1 .left) (u .weigh-into .ensures .1 .0) D f in
+    let shape = in-shape (a .s .now) (a .area .now) (walkOf (a .w)) (a .choice) (weighs u) (e .if1 .left) (u .weigh-into .ensures .1 .0) D
     (o .before .before .blocks-in .ensures .0) f (o .out-of-shape .ensures) (i .if2 .left) in
     (D .flat, (table, (omega arith, shape)))
 
@@ -68,7 +68,7 @@ returns-3 c =
     let e = o .before .before .before .before in
     let u = e .before .before .before .before .before .before in
     let a = start u .args in
-    monitor-replies (a .s .now) (a .area .now) (walkOf (a .w)) (a .choice) (weighs u) (e .if1 .left) (u .weigh-into .ensures .1 .1)
+    monitor-replies (a .s .now) (a .area .now) (walkOf (a .w)) (a .choice) (weighs u) (e .if1 .left) (u .weigh-into .ensures .1 .0) (u .weigh-into .ensures .1 .1)
     (o .before .before .blocks-in .ensures .0) (o .before .budget .ensures .0) (o .out-of-shape .ensures) (i .if2 .left)
     (replyOf (c .monitor-reply .result)) (c .monitor-reply .ensures)
 

@@ -38,5 +38,6 @@ loop-again c =
 pub print-closing-spec : {M : Type 1} → statement M
 print-closing-spec =
     tie.close
-    (tie.spec Inv-loop μ-loop loop-holds add-end (λ c. search needs) closing-part-requires (λ c. search needs) part-length (λ c κs. search needs)
+    (tie.spec Inv-loop μ-loop loop-holds add-end (λ c. search needs) closing-part-requires (λ c. search needs) part-length
+    (λ c κs. search needs)
     (λ c. search needs) (λ c. search needs) loop-again (λ c. search needs))
