@@ -1,5 +1,5 @@
 // The public calls on numbers and slices, for C and Rust: a slice crosses as a pointer and a length, a walk as a row of three words.
-// Rests on graph_check, weigh_sheet, build, bounded_check, reader, guarded_moves, bounded_moves; the promises are theirs, and specs WalkWords and Steps for a walk's words.
+// Rests on graph_check, weigh_sheet, build, bounded_check, reader and both moves; the promises are theirs, and WalkWords and Steps for walks.
 ghost use mathlib.Core.Path.{_≡_};
 ghost use lib.ListN.{length, getD};
 ghost use Rattle.formats.specs.GraphSheet.{sheetRefusal, countSuccessors};

@@ -30,7 +30,9 @@ mul-if3 : tie.Need-mul-if3
 mul-if3 c =
     let n = c .before .before .before .before .read-header .result .blocks in
     let b = c .before .budget .result in
-    let k : n * (b + 1) ≤ 128 * 65536 = mul-le-mul {n₁ = n} {m₁ = b + 1} {n₂ = 128} {m₂ = 65536} (omega (arith, c .before .before .if2 .left)) (omega (arith, c .before .budget .ensures .1)) in
+    let k : n * (b + 1) ≤ 128 * 65536
+    = mul-le-mul {n₁ = n} {m₁ = b + 1} {n₂ = 128} {m₂ = 65536} (omega (arith, c .before .before .if2 .left))
+    (omega (arith, c .before .budget .ensures .1)) in
     omega (arith, k)
 
 returns-3 : tie.Need-returns-3

@@ -33,7 +33,9 @@ module _ (b : tie.After-budget) where
   weighed = b .before .before .before .before .before .before .before .before .before .before
 
 weigh-into-requires : tie.Need-weigh-into-requires
-weigh-into-requires c κs = let p = c .before .before .before .before .before .before .before .before .before .before .before .before .pre in ((p .0 .ok, p .0 .room), p .1 .0)
+weigh-into-requires c κs =
+    let p = c .before .before .before .before .before .before .before .before .before .before .before .before .pre in
+    ((p .0 .ok, p .0 .room), p .1 .0)
 
 returns : tie.Need-returns
 returns c =

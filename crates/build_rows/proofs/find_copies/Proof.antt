@@ -23,8 +23,10 @@ reach-requires c κs =
 returns : tie.Need-returns
 returns c =
     let r = c .before .before .reach .ensures in
-    let L = rw (c .before .before .before .before .before .before .before .before .before .blocks-in .ensures .0) at (c .before .before .before .before .before .before .before .fill-lows .ensures .1) in
-    ((search needs, r .0), (lows-of (c .before .before .before .before .before .before .before .before .before .before .before .before .before .before .pre .1 .1 .0) L, r .1))
+    let L = rw (c .before .before .before .before .before .before .before .before .before .blocks-in .ensures .0)
+    at (c .before .before .before .before .before .before .before .fill-lows .ensures .1) in
+    let p = c .before .before .before .before .before .before .before .before .before .before .before .before .before .before .pre in
+    ((search needs, r .0), (lows-of (p .1 .1 .0) L, r .1))
 
 pub find-copies-spec : {M : Type 1} → statement M
 find-copies-spec =

@@ -45,7 +45,8 @@ returns c =
     let out = z .args .out .now in
     let T = taskIn row (z .args .b) in
     c .before .before .write-records .ensures
-    ∙ ap₂ (λ (o : List ℕ) (cs : List Copy). putWords o 3 (recordWords (rowsOf (graphIn row) cs))) (c .before .before .before .before .before .before .put-three .ensures) (z .pre .1 .1 .0 .1)
+    ∙ ap₂ (λ (o : List ℕ) (cs : List Copy). putWords o 3 (recordWords (rowsOf (graphIn row) cs)))
+    (c .before .before .before .before .before .before .put-three .ensures) (z .pre .1 .1 .0 .1)
     ∙ written T out (q .0 .0) (q .1 .0 .0) (omega (arith, sheet-length T, q .1 .1))
 
 pub write-sheet-spec : {M : Type 1} → statement M

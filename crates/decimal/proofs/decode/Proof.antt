@@ -82,7 +82,8 @@ returns-2 : tie.Need-returns-2
 returns-2 c =
     let h = c .before .before .before .before .before .before .before .before in
     let put = c .before .before .put-records in
-    ends (known h) (layout-graph (words (known h)) (h .read-header .ensures .0) (c .before .before .before .before .if2 .taken)) (put .kept .1 .1 .1 .1 .1 .1 .0) (put .ensures)
+    ends (known h) (layout-graph (words (known h)) (h .read-header .ensures .0) (c .before .before .before .before .if2 .taken))
+    (put .kept .1 .1 .1 .1 .1 .1 .0) (put .ensures)
 
 -- A BOUNDED SHEET
 
@@ -103,7 +104,8 @@ returns-3 c =
     let h = start g in
     let k = known h in
     let put = c .before .before .put-records2 in
-    ends k (layout-bounded (words k) (h .read-header .ensures .0) (g .before .if2 .left) (g .read-heading .ensures .0) (c .before .before .before .before .if3 .taken))
+    ends k (layout-bounded (words k) (h .read-header .ensures .0) (g .before .if2 .left) (g .read-heading .ensures .0)
+    (c .before .before .before .before .if3 .taken))
     (put .kept .1 .1 .1 .1 .1 .1 .0) (put .ensures)
 
 -- ANY OTHER ROW
@@ -122,7 +124,8 @@ returns-4 c =
     let h = start g in
     let k = known h in
     let put = c .before .before .put-lines2 in
-    ends k (layout-other (words k) (h .read-header .ensures .0) (g .before .if2 .left) (g .read-heading .ensures .0) (c .before .before .before .before .if3 .left))
+    ends k (layout-other (words k) (h .read-header .ensures .0) (g .before .if2 .left) (g .read-heading .ensures .0)
+    (c .before .before .before .before .if3 .left))
     (put .kept .1 .1 .1 .0) (put .ensures)
 
 pub decode-spec : {M : Type 1} → statement M

@@ -43,8 +43,8 @@ returns-2 c =
     let e = o .before .before .before .before in
     let u = e .before .before .before .before .before .before in
     let a = start u .args in
-    shape-refused (a .s .now) (a .area .now) (walkOf (a .w)) (a .choice) (weighs u) (e .if1 .left) (u .weigh-into .ensures .1 .0) (u .weigh-into .ensures .1 .1)
-    (o .before .before .blocks-in .ensures .0) (o .before .budget .ensures .0) (o .out-of-shape .ensures) (c .if2 .taken)
+    shape-refused (a .s .now) (a .area .now) (walkOf (a .w)) (a .choice) (weighs u) (e .if1 .left) (u .weigh-into .ensures .1 .0)
+    (u .weigh-into .ensures .1 .1) (o .before .before .blocks-in .ensures .0) (o .before .budget .ensures .0) (o .out-of-shape .ensures) (c .if2 .taken)
 
 monitor-reply-requires : tie.Need-monitor-reply-requires
 monitor-reply-requires c κs =
@@ -68,8 +68,8 @@ returns-3 c =
     let e = o .before .before .before .before in
     let u = e .before .before .before .before .before .before in
     let a = start u .args in
-    monitor-replies (a .s .now) (a .area .now) (walkOf (a .w)) (a .choice) (weighs u) (e .if1 .left) (u .weigh-into .ensures .1 .0) (u .weigh-into .ensures .1 .1)
-    (o .before .before .blocks-in .ensures .0) (o .before .budget .ensures .0) (o .out-of-shape .ensures) (i .if2 .left)
+    monitor-replies (a .s .now) (a .area .now) (walkOf (a .w)) (a .choice) (weighs u) (e .if1 .left) (u .weigh-into .ensures .1 .0)
+    (u .weigh-into .ensures .1 .1) (o .before .before .blocks-in .ensures .0) (o .before .budget .ensures .0) (o .out-of-shape .ensures) (i .if2 .left)
     (replyOf (c .monitor-reply .result)) (c .monitor-reply .ensures)
 
 pub guard-spec : {M : Type 1} → statement M

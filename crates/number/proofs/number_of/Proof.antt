@@ -2,10 +2,14 @@
 -- Rests on base Cells, cells Cells, Looking.
 use borrow.Author.Needs.{needs}
 use mathlib.Core.Path.{_≡_, sym, _∙_}
-use Prim.Native.Nat.{suc, _-_}
+use mathlib.Core.Bool.{false}
+use Prim.Native.Nat.{ℕ, suc, _-_, _≤_}
 use native.Mathlib.Omega.{arith}
 use borrow.Author.Tests.{not-true, not-false}
+use Rattle.base.specs.Cells.{cellOf}
 use Rattle.base.proofs.Cells.{cell-rises}
+use Rattle.cells.specs.Cells.{Within}
+use Rattle.tables.specs.Tables.{marked}
 use Rattle.number.proofs.Looking.{at-once, by-none, by-unmarked, by-marked}
 use Rattle.number.proofs.number_of.Statement.{statement}
 use Rattle.number.proofs.number_of.Tie as tie
@@ -17,47 +21,56 @@ returns c =
 
 returns-2 : tie.Need-returns-2
 returns-2 c =
-    (by-none _ _ _ _ _ (c .before .before .before .entry .ensures .0) (sym (c .before .before .is-marked .ensures) ∙ c .before .if1 .left) (c .if2 .taken), omega arith)
+    let u = sym (c .before .before .is-marked .ensures) ∙ c .before .if1 .left in
+    (by-none _ _ _ _ _ (c .before .before .before .entry .ensures .0) u (c .if2 .taken), omega arith)
+
+-- where the cell is not marked and its entry is not 0: it leads to a cell of the same block, not behind it
+module _ (c : tie.Else2) where
+  abbrev start : tie.Start
+  start = c .before .before .before .before .before .before
+
+  abbrev b : ℕ
+  b = start .args .b
+
+  abbrev v : ℕ
+  v = start .args .v
+
+  abbrev low : ℕ
+  low = c .before .before .before .entry .result - 1
+
+  unmarked : marked b (start .args .marks .now) v (start .args .r) ≡ false
+  unmarked = sym (c .before .before .is-marked .ensures) ∙ c .before .if1 .left
+
+  one-more : c .before .before .before .entry .result ≡ suc low
+  one-more = omega (arith, c .if2 .left)
+
+  small : low ≤ start .args .r
+  small = omega (arith, start .pre .1 .1 unmarked, c .before .before .before .entry .ensures .0)
+
+  within : Within b v low
+  within = let W = start .pre .0 in record { budget = W .budget; block = W .block; cost = omega (arith, W .cost, small) }
+
+  behind : cellOf b v low ≤ cellOf b v (start .args .r)
+  behind = cell-rises b v low (start .args .r) small
 
 is-marked-requires-2 : tie.Need-is-marked-requires-2
-is-marked-requires-2 c κs =
-    let z = c .before .before .before .before .before .before in
-    let W = z .pre .0 in
-    let m = z .pre .1 .1 (sym (c .before .before .is-marked .ensures) ∙ c .before .if1 .left) in
-    let x = c .before .before .before .entry .ensures .0 in (
-      record { budget = W .budget; block = W .block; cost = omega (arith, W .cost) },
-      omega (arith, z .pre .1 .0 .0, cell-rises (z .args .b) (z .args .v) (c .before .before .before .entry .result - 1) (z .args .r) (omega arith)),
-    )
+is-marked-requires-2 c κs = (within c, omega (arith, start c .pre .1 .0 .0, behind c))
 
 returns-3 : tie.Need-returns-3
 returns-3 c =
-    let x = c .before .before .before .before .before .entry .result in
-    let s : x ≡ suc (x - 1) = omega (arith, c .before .before .if2 .left) in (
-      by-unmarked _ _ _ _ _ (c .before .before .before .before .before .entry .ensures .0) (sym (c .before .before .before .before .is-marked .ensures) ∙ c .before .before .before .if1 .left) (x - 1) s
-          (sym (c .before .is-marked2 .ensures) ∙ not-true _ (c .if3 .taken)),
-      omega arith,
-    )
+    let u = c .before .before in
+    let m = sym (c .before .is-marked2 .ensures) ∙ not-true _ (c .if3 .taken) in
+    (by-unmarked _ _ _ _ _ (u .before .before .before .entry .ensures .0) (unmarked u) (low u) (one-more u) m, omega arith)
 
 entry-requires-2 : tie.Need-entry-requires-2
-entry-requires-2 c κs =
-    let z = c .before .before .before .before .before .before .before .before in
-    let W = z .pre .0 in
-    let m = z .pre .1 .1 (sym (c .before .before .before .before .is-marked .ensures) ∙ c .before .before .before .if1 .left) in
-    let x = c .before .before .before .before .before .entry .ensures .0 in (
-      record { budget = W .budget; block = W .block; cost = omega (arith, W .cost) },
-      omega (arith, z .pre .1 .0 .1, cell-rises (z .args .b) (z .args .v) (c .before .before .before .before .before .entry .result - 1) (z .args .r) (omega arith)),
-    )
+entry-requires-2 c κs = let u = c .before .before in (within u, omega (arith, start u .pre .1 .0 .1, behind u))
 
 returns-4 : tie.Need-returns-4
 returns-4 c =
-    let x = c .before .before .before .before .before .before .entry .result in
-    let s : x ≡ suc (x - 1) = omega (arith, c .before .before .before .if2 .left) in
-    let e = c .entry2 .ensures in (
-      e .0
-          ∙ by-marked _ _ _ _ _ (c .before .before .before .before .before .before .entry .ensures .0) (sym (c .before .before .before .before .before .is-marked .ensures) ∙ c .before .before .before .before .if1 .left) (x - 1) s
-          (sym (c .before .before .is-marked2 .ensures) ∙ not-false _ (c .before .if3 .left)),
-      e .1,
-    )
+    let u = c .before .before .before in
+    let e = c .entry2 .ensures in
+    let m = sym (c .before .before .is-marked2 .ensures) ∙ not-false _ (c .before .if3 .left) in
+    (e .0 ∙ by-marked _ _ _ _ _ (u .before .before .before .entry .ensures .0) (unmarked u) (low u) (one-more u) m, e .1)
 
 pub number-of-spec : {M : Type 1} → statement M
 number-of-spec =
