@@ -2,7 +2,12 @@
  *
  * `rt staticlib gilstavo` writes target/staticlib/libgilstavo.a (x86-64, System V calling convention).
  *
- * A sheet is a row of 16-bit words. Every call returns, whatever the content and the length of what it is lent:
+ * A sheet is a row of 16-bit words; records are numbered from 1, and 0 ends a chain (docs/FORMATS.md has an example of each).
+ *   Graph sheet:   N, E, B; N block records of cost, first edge; E edge records of target block, next edge.
+ *   Bounded sheet: C, F, B; C copy records of block, low, first edge; F edge records of target copy (0: the exception exit), next edge.
+ *                  Copy 1 is the start, copy 2 the exit; the record of copy i begins at word 3 * i, so sheet[3 * i] is its block.
+ *
+ * Every call returns, whatever the content and the length of what it is lent:
  *
  *   0        accepted
  *   1        fewer than 3 words
@@ -38,6 +43,9 @@
 extern "C" {
 #endif
 
+/* The version of these declarations, which changes with every change of a format, a number or a call. */
+#define GILSTAVO_VERSION 1
+
 /* A work area of so many bytes is never answered 21, an output row of so many words never 22. */
 #define GILSTAVO_MOST_AREA 64128
 #define GILSTAVO_MOST_OUTPUT 28675
@@ -64,7 +72,7 @@ uint16_t gilstavo_weigh(const uint16_t *sheet, size_t sheet_words, uint8_t *area
 /* Builds the bounded sheet of a graph sheet: 1 to 8, 21, 9, 10, 22, else 0.
  * Under 0 the first 3 + 3C + 2F words of the output row are the bounded sheet (C is its first word, F its second) and the rest keep
  * their content; under a refusal the whole output row keeps its content. The area is left as by gilstavo_weigh: filled under every
- * answer but 1 to 8 and 21. Takes less than 288 KB of stack (measured, docs/MEASUREMENTS.md). */
+ * answer but 1 to 8 and 21. Takes at most 283 KB of stack (measured, docs/MEASUREMENTS.md). */
 uint16_t gilstavo_build(const uint16_t *sheet, size_t sheet_words, uint8_t *area, size_t area_bytes, uint16_t *output,
                         size_t output_words);
 

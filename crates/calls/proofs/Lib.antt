@@ -24,3 +24,5 @@ pub mod Rows
 pub mod Unused
 -- and of the greatest: report-greatest
 pub mod Greatest
+-- no copy but the start's is reached from itself: falls-by, few-moves, no-loop
+pub mod Unrolled
