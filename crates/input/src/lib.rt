@@ -1,34 +1,50 @@
-// Standard input to its end: whether its number of bytes is odd; and past some bytes.
-// Rests on io; no contract can say what is read.
+// Standard input to its end, of which the first bytes are kept; and past some bytes.
+// Rests on io, os and kept; no contract can say what is read.
+use kept::Kept;
+use kept::keep;
+use kept::nothing;
 use libc::STDIN_FILENO;
 ghost use mathlib.Core.Path.{_≡_};
 ghost use Prim.Native.Nat.{_≤_};
+ghost use lib.ListN.{length};
 ghost use Rattle.input.specs.Smaller.{smaller};
 
-// Reads once, and answers how many bytes came.
-fn read_some() -> usize
-    ensures { λ r. ⌜ r ≤ 4096 ⌝ }
-{
-    let mut space = io::buffer();
-    let got = libc::read(STDIN_FILENO, &mut space);
-    io::count(got, &space)
+// What is kept of an input that was read to its end, or of one that could not be.
+pub struct Input {
+    pub kept: Kept,
+    pub failed: bool,
 }
 
-// Reads to the end, and answers whether the number of bytes with those before was odd.
-pub fn odd_at_the_end(before: bool) -> bool {
-    let mut odd = before;
+// Reads to the end, piece by piece, and keeps what the row has room for. A read that fails is said on standard error, with the reason.
+pub fn read_to_end(row: &mut [u8]) -> Input
+    ensures { λ r. ⌜ r .kept .count ≤ length (now (row .exit)) ⌝ }
+{
+    let mut s = nothing();
+    let mut space = io::large_buffer();
     let mut turns = u64::MAX;
     while turns > 0 {
-        let n = read_some();
+        let got = libc::read(STDIN_FILENO, &mut space);
+        if got < 0 {
+            os::fail(b"standard input");
+            return Input {
+                kept: s,
+                failed: true,
+            };
+        }
+        let n = io::count(got, &space);
         if n == 0 {
-            return odd;
+            return Input {
+                kept: s,
+                failed: false,
+            };
         }
-        if n % 2 == 1 {
-            odd = !odd;
-        }
+        s = keep(s, &space[..n], row);
         turns -= 1;
     }
-    odd
+    Input {
+        kept: s,
+        failed: true,
+    }
 }
 
 // The smaller of two numbers.

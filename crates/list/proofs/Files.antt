@@ -1,10 +1,10 @@
 -- The listing of a graph sheet by its answer, and of a whole file by its first words.
--- Rests on calls Program, front Read, specs Whole.
-use mathlib.Core.Path.{_≡_, refl, sym, _∙_}
+-- Rests on calls Program, front Read, kept Held, specs Whole.
+use mathlib.Core.Path.{_≡_, refl, sym, ap, ap₂, _∙_}
 use mathlib.Core.Bool.{Bool, true, false}
 use mathlib.Core.List.{List}
 use Prim.Native.Nat.{ℕ, zero, suc}
-use lib.ListN.{take}
+use lib.ListN.{length, take}
 use Rattle.base.specs.Checks.{refused}
 use Rattle.formats.specs.File.{wordsOf, oddBytes}
 use Rattle.formats.specs.Listing.{listingOf, refusalOf}
@@ -12,6 +12,7 @@ use Rattle.calls.specs.SheetGraph.{boundedSheet}
 use Rattle.calls.specs.Program.{listingOrder, sheetListing, listing}
 use Rattle.file_words.specs.Longer.{longerFile}
 use Rattle.front.proofs.Read.{front-same}
+use Rattle.kept.specs.Held.{Held, holding}
 use Rattle.list.specs.Whole.{listingFrom}
 
 -- A GRAPH SHEET
@@ -48,3 +49,9 @@ listed-whole fs = go (oddBytes fs) refl
     go : (b : Bool) → oddBytes fs ≡ b → listingFrom (take longerFile fs) (oddBytes fs) ≡ listing fs
     go true e = rw (e, listing, listingFrom)
     go false e = rw (e, listing, listingFrom) (front-same sheetListing same-listing fs)
+
+-- and so does what is kept of it in a row for so much
+pub listed-kept : {xs row : List ℕ} {n : ℕ} {odd : Bool} → Held xs row (holding n odd) → length row ≡ longerFile
+    → listingFrom (take n row) odd ≡ listing xs
+listed-kept {xs} H l =
+    ap₂ listingFrom (H .bytes ∙ ap (λ (n : ℕ). take n xs) l) (H .odd) ∙ listed-whole xs

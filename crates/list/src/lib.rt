@@ -1,23 +1,26 @@
 // The listing of a file, on slices: below the program, which reads the file and writes the text.
 // Rests on file_words, build, front, text; the text is calls Program `listing` of the whole file (proofs Files).
 ghost use mathlib.Core.Path.{_≡_};
-ghost use Prim.Native.Nat.{_≤_};
+ghost use mathlib.Core.List.{List};
+ghost use Prim.Native.Nat.{ℕ, _≤_};
 ghost use lib.ListN.{length};
 ghost use Rattle.formats.specs.Limits.{mostCells};
 ghost use Rattle.formats.specs.BoundedSheet.{heading, boundedLength};
 ghost use Rattle.formats.specs.Rule11.{boundedRefusal};
 ghost use Rattle.formats.specs.Listing.{listingOf};
-ghost use Rattle.calls.specs.Program.{sheetListing};
+ghost use Rattle.calls.specs.Program.{sheetListing, listing};
 ghost use Rattle.file_words.specs.Longer.{longerFile};
 ghost use Rattle.front.specs.Front.{mostWords, frontSheet};
 ghost use Rattle.digits.specs.Wrote.{Wrote};
 ghost use Rattle.text.specs.Texts.{listingRoom};
+ghost use Rattle.kept.specs.Held.{Held, heldAs};
 ghost use Rattle.list.specs.Whole.{listingFrom};
 use build::build;
 use file_words::LONGER_SHEET;
 use file_words::words_of;
 use front::MOST_WORDS;
 use front::front_sheet;
+use kept::Kept;
 use text::write_listing;
 use text::write_refusal;
 use words::MOST_CELLS;
@@ -68,4 +71,15 @@ pub fn list_file(bytes: &[u8], odd: bool, text: &mut [u8]) -> usize
     let mut words = [0u16; LONGER_SHEET];
     let n = words_of(bytes, &mut words);
     list_words(&words[..n], text)
+}
+
+// The listing of an input, of which a row has the first bytes; answers the length of the text.
+pub fn list_kept(s: Kept, row: &[u8], text: &mut [u8]) -> usize
+    requires { ⌜ (length (now row) ≡ longerFile) × (s .count ≤ length (now row)) ⌝ }
+    requires { ⌜ listingRoom ≤ length (now text) ⌝ }
+    ensures { λ r. ⌜ r ≤ length (now (text .exit)) ⌝ }
+    ensures { λ r. ⌜ ((xs : List ℕ) → Held xs (now (row .entry)) (heldAs s) → Wrote (now (text .entry)) 0 (listing xs) (now (text .exit)) r) ⌝ }
+{
+    let n = s.count;
+    list_file(&row[..n], s.odd, text)
 }

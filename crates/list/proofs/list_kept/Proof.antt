@@ -1,0 +1,28 @@
+-- The first bytes of an input and its parity give the listing of the whole.
+-- Rests on digits Due, Files.
+use borrow.Author.Needs.{needs}
+use mathlib.Core.Path.{sym}
+use native.Mathlib.Omega.{arith}
+use lib.Seq.{length-take-le}
+use Rattle.digits.proofs.Due.{wrote-as}
+use Rattle.list.proofs.Files.{listed-kept}
+use Rattle.list.proofs.list_kept.Statement.{statement}
+use Rattle.list.proofs.list_kept.Tie as tie
+
+slice-aggregate-list-file : tie.Need-slice-aggregate-list-file
+slice-aggregate-list-file c = let z = c .before .before .before in sym (length-take-le (z .args .s .count) (z .args .row .now) (z .pre .0 .1))
+
+list-file-requires : tie.Need-list-file-requires
+list-file-requires c κs =
+    let z = c .before .before .before .before in
+    (omega (arith, z .pre .0, length-take-le (z .args .s .count) (z .args .row .now) (z .pre .0 .1)), z .pre .1)
+
+returns : tie.Need-returns
+returns c =
+    let z = c .before .before .before .before .before .before .before in
+    let e = c .before .before .list-file .ensures in
+    (e .1, λ xs H. wrote-as (e .0) (listed-kept H (z .pre .0 .0)))
+
+pub list-kept-spec : {M : Type 1} → statement M
+list-kept-spec =
+    tie.close (tie.spec slice-aggregate-list-file list-file-requires (λ c. search needs) returns)
