@@ -1,0 +1,3 @@
+-- What the decode program prints.
+-- Rests on formats, decimal.
+pub mod Shown
