@@ -15,7 +15,7 @@ use Rattle.theory.specs.Setting.{Setting, Entry, entryPlace, LaysOut, Agrees, P
 use Rattle.theory.proofs.Runs.{RunsAs, runs-as, unchanged-as, keeps-all}
 use Rattle.theory.proofs.Agreement.{agrees, paths-kept}
 use Rattle.theory.proofs.Monitor.{monitor-acts}
-use Rattle.theory.proofs.Shape.{monitor-kept, monitor-start, Held, held-shape, held-kept, held-start}
+use Rattle.theory.proofs.Shape.{most-fits, monitor-kept, monitor-start, Held, held-shape, held-kept, held-start}
 use Rattle.formats.specs.Limits.{mostCopies, mostBoundedEdges}
 use Rattle.formats.specs.GraphSheet.{budgetIn, header}
 use Rattle.formats.specs.BoundedSheet.{heading, sheetWords}
@@ -118,12 +118,6 @@ module _ (w : List ℕ) (K : Buildable w) where
   most-of : (z : Walk) (e : End) → z .end ≡ e → z .count ≤ mostMoves B (z .end) → z .count ≤ mostMoves B e
   most-of z e p l = subst (λ (x : End). z .count ≤ mostMoves B x) p l
 
-  at-most : (e : End) → mostMoves B e ≤ suc B
-  unfolding mostMoves
-  at-most going = omega arith
-  at-most exit = omega arith
-  at-most diverted = omega arith
-
   kept : (ks bs : List ℕ) (c : ℕ) → Path (graph w) 1 ks bs c
       → (c ≤ B) ↔ Unchanged (boundedMove t) (boundedBlock t) (λ s. s .end) starting ks bs
   unfolding PathsKept readBounded
@@ -155,7 +149,7 @@ module _ (w : List ℕ) (K : Buildable w) where
         guarded-most = omega (arith, d .count, ap (λ (s : Walk). s .count) (x .last));
         bounded-count = count ∙ moves;
         bounded-going = λ e. omega (arith, count, most-of z going (sym end ∙ e) (d .most));
-        bounded-ended = omega (arith, count, d .most, at-most (z .end));
+        bounded-ended = omega (arith, count, d .most, most-fits B (z .end));
         ends-within = λ l e. omega (arith, moves, most-of z going (sym end ∙ e) (d .most));
         monitor-onward = λ e. (1, d .monitor-onward e);
         guarded-onward = λ e. (1, guarded-next ks _ (x .last) e);

@@ -1,25 +1,20 @@
 -- What is shown of a file, by what is kept of it.
--- Rests on base Lists, formats File, kept Held, specs Shown.
+-- Rests on file_words Filled, kept Held, specs Shown.
 use mathlib.Core.Path.{_≡_, sym, ap, _∙_}
 use mathlib.Core.Bool.{Bool, true, false}
 use mathlib.Core.List.{List}
-use Prim.Native.Nat.{ℕ, _/_, _≤_, _<_}
+use Prim.Native.Nat.{ℕ, _≤_, _<_}
 use native.Mathlib.Decide.{decLe}
 use native.Mathlib.Omega.{arith}
 use borrow.Author.Tests.{lt-ltb, le-ltb}
-use lib.ListN.{length, take, length-map}
+use lib.ListN.{length, take}
 use lib.Seq.{length-take-le, take-all}
-use Rattle.base.specs.Lists.{from}
-use Rattle.base.proofs.Lists.{from-length}
-use Rattle.formats.specs.File.{wordsOf, wordOf, oddBytes}
+use Rattle.formats.specs.File.{wordsOf}
 use Rattle.formats.specs.Listing.{refusalOf}
 use Rattle.decimal.specs.Writing.{sheetText}
+use Rattle.file_words.proofs.Filled.{words-length}
 use Rattle.kept.specs.Held.{Held, holding}
 use Rattle.show.specs.Shown.{mostShown, shownFile, shown}
-
-pub words-count : (bs : List ℕ) → length (wordsOf bs) ≡ length bs / 2
-unfolding wordsOf
-words-count bs = length-map (from 0 (length bs / 2)) (wordOf bs) ∙ from-length (length bs / 2) 0
 
 module _ {xs row : List ℕ} {n : ℕ} {odd : Bool} (H : Held xs row (holding n odd)) (l : length row ≡ shownFile) where
   pub shown-odd : odd ≡ true → refusalOf 1 ≡ shown xs
@@ -32,7 +27,7 @@ module _ {xs row : List ℕ} {n : ℕ} {odd : Bool} (H : Held xs row (holding n 
 
     pub shown-long : length row ≤ n → refusalOf 3 ≡ shown xs
     unfolding shown
-    shown-long k = rw (sym (H .odd) ∙ e, lt-ltb mostShown (length (wordsOf xs)) (omega (arith, words-count xs, go (decLe (length row) (length xs)))), shown)
+    shown-long k = rw (sym (H .odd) ∙ e, lt-ltb mostShown (length (wordsOf xs)) (omega (arith, words-length xs, go (decLe (length row) (length xs)))), shown)
       where
         go : Dec (length row ≤ length xs) → shownFile ≤ length xs
         go (yes p) = omega arith
@@ -41,7 +36,7 @@ module _ {xs row : List ℕ} {n : ℕ} {odd : Bool} (H : Held xs row (holding n 
     pub shown-words : n < length row → sheetText (wordsOf (take n row)) ≡ shown xs
     unfolding shown
     shown-words k =
-        rw (sym (H .odd) ∙ e, le-ltb mostShown (length (wordsOf xs)) (omega (arith, words-count xs, whole)), shown)
+        rw (sym (H .odd) ∙ e, le-ltb mostShown (length (wordsOf xs)) (omega (arith, words-length xs, whole)), shown)
         (ap (λ (bs : List ℕ). sheetText (wordsOf bs)) (H .bytes ∙ take-all (length row) xs (omega (arith, whole))))
       where
         go : Dec (length row ≤ length xs) → length xs ≡ n

@@ -4,14 +4,14 @@ use mathlib.Core.Path.{_≡_, refl, sym, ap, subst, _∙_}
 use mathlib.Core.Bool.{Bool, true, false}
 use mathlib.Core.List.{List}
 use mathlib.Core.Option.{Option, some, none, Option·map, Option·none-ne-some, Option·some-injective}
-use Prim.Native.Nat.{ℕ, zero, suc, _-_}
+use Prim.Native.Nat.{ℕ, zero, suc, _-_, _≤_}
 use native.Mathlib.Omega.{arith}
 use lib.Dec.{eqb}
 use Rattle.base.specs.Lists.{chosen}
 use Rattle.theory.specs.Completions.{Graph, fits}
 use Rattle.base.specs.Copy.{Copy}
 use Rattle.theory.specs.Copies.{targets, targetNumber}
-use Rattle.theory.specs.Machines.{going}
+use Rattle.theory.specs.Machines.{End, going, exit, diverted}
 use Rattle.theory.specs.Walks.{Walk, startAt, starting, endAt, mostMoves, isExit, InShape, monitor, monitorTake, CopyWalk, entered}
 use Rattle.theory.specs.Walks.{copyTake, Bounded, boundedTake, boundedWalk}
 use Rattle.theory.specs.Setting.{Setting, Entry, copies, startCopy, entryPlace, LaysOut}
@@ -20,6 +20,13 @@ use Rattle.theory.proofs.Completions.{fits-e, covers}
 use Rattle.theory.proofs.Counts.{Timely, timely-take, timely-start}
 use Rattle.theory.proofs.Reach.{two, start-in}
 use Rattle.theory.proofs.Agreement.{Sits, setOut, sits-take, sits-start, same-end, within-most}
+
+-- the most moves are at most one more than the budget
+pub most-fits : (b : ℕ) (e : End) → mostMoves b e ≤ suc b
+unfolding mostMoves
+most-fits b going = omega arith
+most-fits b exit = omega arith
+most-fits b diverted = omega arith
 
 -- a place that is entered is in shape
 entered-shape : (x p : ℕ) → isExit (endAt x p) ≡ eqb p x

@@ -3,5 +3,5 @@
 -- the test of an end and the end at a place: ended-is, going-is, ends, goes; refusal 33, test by test: below, above, torn, counted;
 -- what a walk in shape has: shape-of
 pub mod Shape
--- the reply of any machine, case by case: ended, unchosen, takes; its number: reply-late; the most moves: most-fits
+-- the reply of any machine, case by case: ended, unchosen, takes; its number: reply-late
 pub mod Replies

@@ -8,7 +8,6 @@ use native.Mathlib.Omega.{arith}
 use Rattle.base.specs.Lists.{any, chosen, from, member, optionOf}
 use Rattle.base.proofs.Options.{option-none, option-some}
 use Rattle.theory.specs.Machines.{End, going, exit, diverted, Machine, taken, replyAt, reply}
-use Rattle.theory.specs.Walks.{mostMoves}
 use Rattle.calls.specs.Weigh.{beforeWeighing}
 use Rattle.calls.proofs.Weigh.{spared}
 
@@ -49,10 +48,3 @@ reply-late m s k = stands (m .stands s)
     stands going = chooses (chosen (m .targets s) k)
     stands exit = spared 32
     stands diverted = spared 32
-
--- the moves of a walk in shape are few
-pub most-fits : (b : ℕ) (e : End) → mostMoves b e ≤ suc b
-unfolding mostMoves
-most-fits b going = omega arith
-most-fits b exit = omega arith
-most-fits b diverted = omega arith

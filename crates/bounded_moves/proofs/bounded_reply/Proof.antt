@@ -10,7 +10,8 @@ use Rattle.formats.specs.Limits.{mostBudget}
 use Rattle.formats.specs.BoundedSheet.{headingOf}
 use Rattle.walk.specs.Walks.{endOf, walkOf}
 use Rattle.walk.proofs.Shape.{ended-is, going-is}
-use Rattle.walk.proofs.Replies.{ended, unchosen, most-fits}
+use Rattle.theory.proofs.Shape.{most-fits}
+use Rattle.walk.proofs.Replies.{ended, unchosen}
 use Rattle.bounded_moves.specs.Bounded.{boundedAt}
 use Rattle.bounded_moves.proofs.Replies.{diverts, enters}
 use Rattle.bounded_moves.proofs.bounded_reply.Statement.{statement}

@@ -1,17 +1,17 @@
 -- The words are those of the bytes, and few enough.
--- Rests on decimal Parts, digits Due, Shown.
+-- Rests on decimal Parts, digits Due, file_words Filled.
 use borrow.Author.Needs.{needs}
 use mathlib.Core.Path.{_≡_, sym, ap, subst, _∙_}
 use mathlib.Core.List.{List}
 use Prim.Native.Nat.{ℕ, _≤_}
 use native.Mathlib.Omega.{arith}
 use lib.ListN.{length, take}
-use lib.Seq.{length-take-le, take-at}
+use lib.Seq.{length-take-le}
 use Rattle.formats.specs.File.{wordsOf}
+use Rattle.file_words.proofs.Filled.{words-first}
 use Rattle.digits.proofs.Due.{wrote-as}
 use Rattle.decimal.specs.Writing.{sheetText}
 use Rattle.decimal.proofs.Parts.{zeros-room}
-use Rattle.show.proofs.Shown.{words-count}
 use Rattle.show.proofs.show_words.Statement.{statement}
 use Rattle.show.proofs.show_words.Tie as tie
 
@@ -30,9 +30,7 @@ module _ (u : tie.After-words-of) where
   fit = subst (λ (x : ℕ). u .words-of .result ≤ x) (sym (u .words-of .kept .1 .0)) (zeros-room 65535 (u .words-of .result) few)
 
   made : take (u .words-of .result) (u .words-of .last .1 .0) ≡ wordsOf bytes
-  made =
-      ap (take (u .words-of .result)) (u .words-of .ensures .1)
-      ∙ take-at (wordsOf bytes) _ (u .words-of .result) (words-count bytes ∙ sym (u .words-of .ensures .0))
+  made = words-first bytes _ _ (u .words-of .result) (u .words-of .ensures .1) (u .words-of .ensures .0)
 
 slice-aggregate-decode : tie.Need-slice-aggregate-decode
 slice-aggregate-decode c = sym (length-take-le _ _ (fit (c .before .before)))
