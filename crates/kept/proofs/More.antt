@@ -74,5 +74,6 @@ held-next xs bytes i l {after = after} {r = r} {odd = odd} H k h =
 pub held-none : {xs row : List ℕ} {s : Holding} (bytes : List ℕ) → Held xs row s → Held (xs ++ take 0 bytes) row s
 held-none {xs} {row} {s} bytes H = subst (λ (ys : List ℕ). Held ys row s) (sym (append-nil xs)) H
 
-pub held-all : (xs : List ℕ) {row : List ℕ} {s : Holding} (bytes : List ℕ) (i : ℕ) → length bytes ≤ i → Held (xs ++ take i bytes) row s → Held (xs ++ bytes) row s
+pub held-all : (xs : List ℕ) {row : List ℕ} {s : Holding} (bytes : List ℕ) (i : ℕ) → length bytes ≤ i → Held (xs ++ take i bytes) row s
+    → Held (xs ++ bytes) row s
 held-all xs {row} {s} bytes i l H = subst (λ (ys : List ℕ). Held (xs ++ ys) row s) (take-all i bytes l) H

@@ -28,12 +28,13 @@ keep-byte-requires c κs = c .before .before .before .loop .inv .2
 loop-again : tie.Need-loop-again Inv-loop μ-loop
 loop-again c =
     let k = c .before .before .keep-byte in
+    let bytes = c .before .before .before .before .before .before .before .before .before .args .bytes .now in
     let l = c .before .before .before .before .before .before .loop in
     let t = c .before .before .before .before .before .loop-test .taken in (
       omega (arith, t),
       k .kept .0 ∙ l .inv .1,
       k .ensures .0,
-      λ xs H. held-next xs (c .before .before .before .before .before .before .before .before .before .args .bytes .now) (l .i) t (l .inv .3 xs H) (k .ensures .0) (k .ensures .1),
+      λ xs H. held-next xs bytes (l .i) t (l .inv .3 xs H) (k .ensures .0) (k .ensures .1),
     )
 
 same-length : tie.Need-same-length Inv-loop μ-loop
