@@ -1,2 +1,2 @@
--- the smaller of two numbers: smaller-first, smaller-second, smaller-most
-pub mod Smaller
+-- what a call of `read` brought, by its parts: piece-is
+pub mod Answers

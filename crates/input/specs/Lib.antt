@@ -1,2 +1,2 @@
--- the smaller of two numbers: smaller
-pub mod Smaller
+-- what a call of `read` answered: pieceOf
+pub mod Answers

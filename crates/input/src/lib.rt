@@ -1,5 +1,5 @@
-// Standard input to its end, of which the first bytes are kept; and past some bytes.
-// Rests on io, os and kept; no contract can say what is read.
+// Standard input piece by piece, and to its end, of which the first bytes are kept; a read that fails is said on standard error.
+// Rests on io, os and kept; no contract can say what is read, and what is made of the number that `read` answers is specs Answers.
 use kept::Kept;
 use kept::keep;
 use kept::nothing;
@@ -7,7 +7,14 @@ use libc::STDIN_FILENO;
 ghost use mathlib.Core.Path.{_≡_};
 ghost use Prim.Native.Nat.{_≤_};
 ghost use lib.ListN.{length};
-ghost use Rattle.input.specs.Smaller.{smaller};
+ghost use Rattle.io.specs.Counts.{Counts};
+ghost use Rattle.input.specs.Answers.{pieceOf};
+
+// The next bytes of an input: how many stand in a row, none at its end, and whether it could not be read.
+pub struct Piece {
+    pub count: usize,
+    pub failed: bool,
+}
 
 // What is kept of an input that was read to its end, or of one that could not be.
 pub struct Input {
@@ -15,7 +22,30 @@ pub struct Input {
     pub failed: bool,
 }
 
-// Reads to the end, piece by piece, and keeps what the row has room for. A read that fails is said on standard error, with the reason.
+// By the number that `read` answered.
+fn answered(got: isize, space: &[u8]) -> Piece
+    ensures { λ r. ⌜ r ≡ pieceOf got (length (now (space .entry))) ⌝ }
+    ensures { λ r. ⌜ Counts (r .count) (now (space .entry)) ⌝ }
+{
+    Piece {
+        count: io::count(got, space),
+        failed: got < 0,
+    }
+}
+
+// Reads the next bytes into a row. A read that fails is said on standard error, with the reason.
+pub fn read_piece(space: &mut [u8]) -> Piece
+    ensures { λ r. ⌜ Counts (r .count) (now (space .exit)) ⌝ }
+{
+    let got = libc::read(STDIN_FILENO, space);
+    let p = answered(got, space);
+    if p.failed {
+        os::fail(b"standard input");
+    }
+    p
+}
+
+// Reads to the end, piece by piece, and keeps what the row has room for.
 pub fn read_to_end(row: &mut [u8]) -> Input
     ensures { λ r. ⌜ r .kept .count ≤ length (now (row .exit)) ⌝ }
 {
@@ -23,19 +53,12 @@ pub fn read_to_end(row: &mut [u8]) -> Input
     let mut space = io::large_buffer();
     let mut turns = u64::MAX;
     while turns > 0 {
-        let got = libc::read(STDIN_FILENO, &mut space);
-        if got < 0 {
-            os::fail(b"standard input");
-            return Input {
-                kept: s,
-                failed: true,
-            };
-        }
-        let n = io::count(got, &space);
+        let p = read_piece(&mut space);
+        let n = p.count;
         if n == 0 {
             return Input {
                 kept: s,
-                failed: false,
+                failed: p.failed,
             };
         }
         s = keep(s, &space[..n], row);
@@ -45,38 +68,4 @@ pub fn read_to_end(row: &mut [u8]) -> Input
         kept: s,
         failed: true,
     }
-}
-
-// The smaller of two numbers.
-pub fn least(a: usize, b: usize) -> usize
-    ensures { λ r. ⌜ r ≡ smaller a b ⌝ }
-{
-    if a < b {
-        return a;
-    }
-    b
-}
-
-// Reads at most n bytes, and answers how many came.
-fn read_at_most(n: usize) -> usize
-    ensures { λ r. ⌜ r ≤ n ⌝ }
-{
-    let mut space = io::buffer();
-    let k = least(n, 4096);
-    io::read_full(STDIN_FILENO, &mut space[..k])
-}
-
-// Reads past at most n bytes, and answers how many there were.
-pub fn skip(n: usize) -> usize
-    ensures { λ r. ⌜ r ≤ n ⌝ }
-{
-    let mut left = n;
-    while left > 0 {
-        let m = read_at_most(left);
-        if m == 0 {
-            return n - left;
-        }
-        left -= m;
-    }
-    n
 }

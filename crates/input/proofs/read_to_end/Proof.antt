@@ -1,7 +1,7 @@
 -- What is kept fits the row; the measure is the turns left.
 -- Rests on kept `keep`.
 use borrow.Author.Needs.{needs}
-use mathlib.Core.Path.{_≡_, refl, sym, ap, _∙_}
+use mathlib.Core.Path.{_≡_, refl, ap}
 use Prim.Native.Nat.{ℕ, _≤_}
 use native.Mathlib.Omega.{arith}
 use lib.ListN.{length}
@@ -10,37 +10,31 @@ use Rattle.input.proofs.read_to_end.Statement.{statement}
 use Rattle.input.proofs.read_to_end.Tie as tie
 
 abbrev Inv-loop : tie.InvT-loop
-Inv-loop row₀ s₀ space₀ turns₀ t7 row s space turns = (length row ≡ length row₀) × (s .count ≤ length row) × (65536 ≡ length space)
+Inv-loop row₀ s₀ space₀ turns₀ row s space turns = (length row ≡ length row₀) × (s .count ≤ length row) × (65536 ≡ length space)
 
 abbrev μ-loop : tie.MeasureT-loop
-μ-loop row₀ s₀ space₀ turns₀ t7 row s space turns = turns
+μ-loop row₀ s₀ space₀ turns₀ row s space turns = turns
 
 loop-holds : tie.Need-loop-holds Inv-loop μ-loop
 loop-holds c = (refl, omega (arith, ap (λ (h : Holding). h .count) (c .before .nothing .ensures)), c .large-buffer .ensures)
 
-slice-aggregate-read : tie.Need-slice-aggregate-read Inv-loop μ-loop
-slice-aggregate-read c = c .before .before .loop .inv .2
+slice-aggregate-read-piece : tie.Need-slice-aggregate-read-piece Inv-loop μ-loop
+slice-aggregate-read-piece c = c .before .before .loop .inv .2
 
 same-length : tie.Need-same-length Inv-loop μ-loop
-same-length c = c .before .before .before .before .before .before .before .loop .inv .0
+same-length c = c .before .before .before .before .before .loop .inv .0
 
 returns : tie.Need-returns Inv-loop μ-loop
-returns c = c .before .before .before .before .before .before .before .loop .inv .1
-
-same-length-2 : tie.Need-same-length-2 Inv-loop μ-loop
-same-length-2 c = c .before .before .before .before .before .before .before .before .loop .inv .0
-
-returns-2 : tie.Need-returns-2 Inv-loop μ-loop
-returns-2 c = c .before .before .before .before .before .before .before .before .loop .inv .1
+returns c = c .before .before .before .before .before .loop .inv .1
 
 keep-requires : tie.Need-keep-requires Inv-loop μ-loop
-keep-requires c κs = c .before .before .before .before .before .before .before .before .before .before .loop .inv .1
+keep-requires c κs = c .before .before .before .before .before .before .before .loop .inv .1
 
-same-length-3 : tie.Need-same-length-3 Inv-loop μ-loop
-same-length-3 c = c .before .loop .inv .0
+same-length-2 : tie.Need-same-length-2 Inv-loop μ-loop
+same-length-2 c = c .before .loop .inv .0
 
-returns-3 : tie.Need-returns-3 Inv-loop μ-loop
-returns-3 c = c .before .loop .inv .1
+returns-2 : tie.Need-returns-2 Inv-loop μ-loop
+returns-2 c = c .before .loop .inv .1
 
 pub read-to-end-spec : {M : Type 1} → statement M
 read-to-end-spec =
@@ -51,21 +45,15 @@ read-to-end-spec =
     (λ c κs. search needs)
     (λ c κs. search needs)
     loop-holds
-    slice-aggregate-read
-    (λ c κs. search needs)
-    (λ c. search needs)
+    slice-aggregate-read-piece
     (λ c κs. search needs)
     same-length
     returns
-    (λ c. search needs)
-    (λ c κs. search needs)
-    same-length-2
-    returns-2
     (λ c. search needs)
     (λ c. search needs)
     keep-requires
     (λ c. search needs)
     (λ c. search needs)
     (λ c. search needs)
-    same-length-3
-    returns-3)
+    same-length-2
+    returns-2)
