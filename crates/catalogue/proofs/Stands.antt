@@ -2,16 +2,14 @@
 -- Rests on formats Limits and Report, digits Due, tally Tallies, figures Says, specs Standing, Marks, More.
 use mathlib.Core.Path.{_≡_, refl, sym, ap, subst, _∙_}
 use mathlib.Core.Logic.{_⊎_, inl, inr}
-use mathlib.Core.Bool.{Bool, true, false, _&&_, not}
+use mathlib.Core.Bool.{Bool, _&&_, not}
 use mathlib.Core.List.{List, [], _∷_, _++_}
 use mathlib.Core.Option.{Option, some, none, Option·none-ne-some}
 use Prim.Native.Nat.{ℕ, suc, _+_, _*_, _≤_, _<_}
 use native.Mathlib.Omega.{arith}
-use borrow.Author.Tests.{ltb-true}
 use lib.Dec.{ltb}
 use lib.ListN.{length, take, length-append}
 use Rattle.base.specs.Lists.{chosen}
-use Rattle.base.proofs.Truth.{and-e}
 use Rattle.formats.specs.Limits.{mostBlocks, mostSheets}
 use Rattle.formats.specs.Report.{Figures, Sums, noSums, plus, sums, Most, noMost, greater, mostOf, most, sheetLine}
 use Rattle.calls.specs.Report.{figures}
@@ -88,8 +86,3 @@ module _ (t t′ : Tally) (r : Reported) (old part rest : List ℕ) (T : Tallied
     after = λ fs o D F. stands-after fs (figures o) D (said F R);
     more = e;
   }
-
--- where another sheet may come, there is room for it
-pub room-left : {bs old new row text : List ℕ} {cut : Bool} {t : Tally} {r : Step} → Next bs cut t old r new row text → r .more ≡ true
-    → r .tally .place < mostSheets
-room-left {cut = cut} {r = r} N e = ltb-true (r .tally .place) mostSheets (and-e (not cut) (ltb (r .tally .place) mostSheets) (sym (N .more) ∙ e) .1)

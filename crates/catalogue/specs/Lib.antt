@@ -2,5 +2,3 @@
 pub mod Standing
 -- the parts of a report behind the sheets' lines: closingPart
 pub mod Parts
--- the sheets one after the other: Run
-pub mod Run

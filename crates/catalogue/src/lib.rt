@@ -1,5 +1,5 @@
-// A catalogue's report, sheet by sheet: the line of each, and then the closing parts. Below the report program, which reads and prints.
-// Rests on figures, tally, report_lines; the parts together are the report of the whole (proofs Whole).
+// A catalogue's report, sheet by sheet: the line of each, and then the closing parts. Below stream, which puts them together.
+// Rests on figures, tally, report_lines; lines and parts in order are the report (proofs Whole).
 ghost use mathlib.Core.Path.{_≡_};
 ghost use mathlib.Core.Bool.{_&&_, not};
 ghost use mathlib.Core.List.{List};

@@ -33,7 +33,7 @@ wrote-as {old} {new} {at = at} {p} W e =
     }
 
 -- what stood behind the place in an older row stands behind the end
-since : {mid new xs : List ℕ} {p r : ℕ} (old : List ℕ) → Wrote mid p xs new r → drop p mid ≡ drop p old → drop r new ≡ drop r old
+pub since : {mid new xs : List ℕ} {p r : ℕ} (old : List ℕ) → Wrote mid p xs new r → drop p mid ≡ drop p old → drop r new ≡ drop r old
 since {mid} {xs = xs} {p} old W e =
     let n = length xs in
     W .behind ∙ ap (λ (k : ℕ). drop k mid) (W .is-end) ∙ sym (drop-drop n p mid) ∙ ap (drop n) e ∙ drop-drop n p old

@@ -2,3 +2,5 @@
 pub mod Filled
 -- a file longer than the longest graph sheet is refused by its first words: long-file
 pub mod LongFile
+-- two bytes at a time: words-more, words-append
+pub mod Pairs

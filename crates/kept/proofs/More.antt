@@ -56,19 +56,20 @@ odd-more xs b =
     go (suc zero) l e = let p : (length xs + length (b ∷ [])) % 2 ≡ 0 = omega arith in rw (e, p)
     go (suc (suc x)) l e = absurd (omega arith)
 
+-- the bytes before i and the next
+pub bytes-next : (xs bytes : List ℕ) (i : ℕ) → i < length bytes → (xs ++ take i bytes) ++ (getD bytes i 0 ∷ []) ≡ xs ++ take (i + 1) bytes
+bytes-next xs bytes i l =
+    append-assoc xs (take i bytes) (getD bytes i 0 ∷ [])
+    ∙ ap (λ (ys : List ℕ). xs ++ ys) (sym (take-suc bytes i 0 l) ∙ ap (λ (n : ℕ). take n bytes) (sym (add-one i)))
+
 -- so what is held is held with the next of some bytes
 pub held-next : (xs bytes : List ℕ) (i : ℕ) → i < length bytes → {row after : List ℕ} {count r : ℕ} {odd : Bool}
     → Held (xs ++ take i bytes) row (holding count odd) → r ≤ length after
     → ((ys : List ℕ) → take count row ≡ take (length row) ys → take r after ≡ take (length after) (ys ++ (getD bytes i 0 ∷ [])))
     → Held (xs ++ take (i + 1) bytes) after (holding r (not odd))
 held-next xs bytes i l {after = after} {r = r} {odd = odd} H k h =
-    subst (λ (ys : List ℕ). Held ys after (holding r (not odd))) next
+    subst (λ (ys : List ℕ). Held ys after (holding r (not odd))) (bytes-next xs bytes i l)
     (record { room = k; bytes = h (xs ++ take i bytes) (H .bytes); odd = ap not (H .odd) ∙ odd-more (xs ++ take i bytes) (getD bytes i 0) })
-  where
-    next : (xs ++ take i bytes) ++ (getD bytes i 0 ∷ []) ≡ xs ++ take (i + 1) bytes
-    next =
-        append-assoc xs (take i bytes) (getD bytes i 0 ∷ [])
-        ∙ ap (λ (ys : List ℕ). xs ++ ys) (sym (take-suc bytes i 0 l) ∙ ap (λ (n : ℕ). take n bytes) (sym (add-one i)))
 
 -- before the first of them, and behind the last
 pub held-none : {xs row : List ℕ} {s : Holding} (bytes : List ℕ) → Held xs row s → Held (xs ++ take 0 bytes) row s

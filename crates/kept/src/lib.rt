@@ -23,7 +23,7 @@ pub fn nothing() -> Kept
 }
 
 // Keeps one byte more where there is room; how many are kept then.
-fn keep_byte(row: &mut [u8], count: usize, b: u8) -> usize
+pub fn keep_byte(row: &mut [u8], count: usize, b: u8) -> usize
     requires { ⌜ count ≤ length (now row) ⌝ }
     ensures { λ r. ⌜ r ≤ length (now (row .exit)) ⌝ }
     ensures { λ r. ⌜ ((xs : List ℕ) → take count (now (row .entry)) ≡ take (length (now (row .entry))) xs

@@ -1,0 +1,105 @@
+// The report program: reads standard input piece by piece, feeds it, and writes what is handed back (document 02, K1).
+// Rests on input and stream, where the text is made; this decides nothing but when to stop: at the end, at a failure, or where no sheet may come.
+ghost use Prim.Native.Nat.{_<_, _*_};
+ghost use mathlib.Core.Bool.{true};
+ghost use mathlib.Core.Path.{_≡_};
+ghost use lib.ListN.{length};
+ghost use Rattle.formats.specs.Limits.{mostBlocks, mostSheets};
+ghost use Rattle.file_words.specs.Longer.{longerFile};
+ghost use Rattle.catalogue.specs.Standing.{Ready};
+ghost use Rattle.stream.specs.Feeding.{Able};
+use catalogue::MARKS;
+use file_words::LONGER_FILE;
+use input::read_piece;
+use libc::STDOUT_FILENO;
+use stream::LAST_SIZE;
+use stream::LINES_SIZE;
+use stream::Progress;
+use stream::begin;
+use stream::feed;
+use stream::finish;
+
+// How far a catalogue came, and whether a read or a write failed, which was said then.
+struct Reading {
+    progress: Progress,
+    failed: bool,
+}
+
+// Writes to standard output. A write that fails is said on standard error, with the reason.
+fn print(text: &[u8]) -> bool {
+    let done = io::write_all(STDOUT_FILENO, text);
+    if !done {
+        os::fail(b"standard output");
+    }
+    done
+}
+
+// Feeds the next bytes, and writes what is handed back.
+fn feed_piece(s: Progress, bytes: &[u8], row: &mut [u8], marks: &mut [u8]) -> Reading
+    requires { ⌜ Able s (now row) (now marks) ⌝ }
+    ensures { λ r. ⌜ Able (r .progress) (now (row .exit)) (now (marks .exit)) ⌝ }
+{
+    let mut text = [0u8; LINES_SIZE];
+    let h = feed(s, bytes, row, marks, &mut text);
+    let size = h.size;
+    let done = print(&text[..size]);
+    let next = h.progress;
+    Reading {
+        progress: next,
+        failed: !done,
+    }
+}
+
+// Reads and feeds to the end, or as long as another sheet may come.
+fn read_catalogue(row: &mut [u8], marks: &mut [u8]) -> Reading
+    requires { ⌜ (length (now row) ≡ longerFile) × (length (now marks) ≡ mostSheets * mostBlocks) ⌝ }
+    ensures { λ r. ⌜ Able (r .progress) (now (row .exit)) (now (marks .exit)) ⌝ }
+{
+    let mut s = begin();
+    let mut failed = false;
+    let mut space = io::large_buffer();
+    let mut turns = u64::MAX;
+    while turns > 0 {
+        if !s.more {
+            break;
+        }
+        let p = read_piece(&mut space);
+        let n = p.count;
+        failed = p.failed;
+        if n == 0 {
+            break;
+        }
+        let r = feed_piece(s, &space[..n], row, marks);
+        s = r.progress;
+        failed = r.failed;
+        if failed {
+            break;
+        }
+        turns -= 1;
+    }
+    Reading {
+        progress: s,
+        failed: failed,
+    }
+}
+
+// Writes what is still to be printed.
+fn print_last(s: Progress, marks: &mut [u8])
+    requires { ⌜ Ready (s .tally) (now marks) × (s .more ≡ true → s .tally .place < mostSheets) ⌝ }
+{
+    let mut text = [0u8; LAST_SIZE];
+    let size = finish(s, marks, &mut text);
+    print(&text[..size]);
+}
+
+// The report of the catalogue on standard input.
+pub fn run() {
+    let mut row = [0u8; LONGER_FILE];
+    let mut marks = [0u8; MARKS];
+    let r = read_catalogue(&mut row, &mut marks);
+    if r.failed {
+        return;
+    }
+    let s = r.progress;
+    print_last(s, &mut marks);
+}
