@@ -2,9 +2,9 @@
 -- Rests on specs WalkWords.
 use borrow.Author.Needs.{needs}
 use Rattle.walk.specs.Walks.{endOf}
-use Rattle.gilstavo.specs.WalkWords.{endWord}
-use Rattle.gilstavo.proofs.end_word.Statement.{statement}
-use Rattle.gilstavo.proofs.end_word.Tie as tie
+use Rattle.walk_words.specs.WalkWords.{endWord}
+use Rattle.walk_words.proofs.end_word.Statement.{statement}
+use Rattle.walk_words.proofs.end_word.Tie as tie
 
 returns : tie.Need-returns
 unfolding endWord endOf

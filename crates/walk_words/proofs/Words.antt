@@ -1,16 +1,14 @@
--- Three words and the walk that they stand for: read, written, each the inverse of the other, and the words after a step.
--- Rests on base Orders, specs WalkWords and Steps.
+-- Three words and the walk that they stand for: read, written, each the inverse of the other.
+-- Rests on theory Machines and Walks, specs WalkWords.
 use mathlib.Core.Path.{_≡_, refl, sym, ap, _∙_}
 use mathlib.Core.List.{List, [], _∷_, map}
 use Prim.Native.Nat.{ℕ, zero, suc, _≤_, _<_}
 use native.Mathlib.Omega.{arith}
 use borrow.Author.Tests.{lt-ltb, le-ltb}
 use lib.ListN.{getD}
-use Rattle.base.proofs.Orders.{refused-lent, accepted-lent}
-use Rattle.theory.specs.Machines.{End, going, exit, diverted, Reply}
+use Rattle.theory.specs.Machines.{End, going, exit, diverted}
 use Rattle.theory.specs.Walks.{Walk}
-use Rattle.gilstavo.specs.WalkWords.{endIn, endWord, nowhere, walkIn, walkWords}
-use Rattle.gilstavo.specs.Steps.{inWords}
+use Rattle.walk_words.specs.WalkWords.{endIn, endWord, nowhere, walkIn, walkWords}
 
 pub last-end : (e : ℕ) → (e ≡ 0 → ⊥) → (e ≡ 1 → ⊥) → diverted ≡ endIn e
 unfolding endIn
@@ -61,17 +59,3 @@ words-back p c e l =
 pub end-words : map endWord (going ∷ exit ∷ diverted ∷ []) ≡ 0 ∷ 1 ∷ 2 ∷ []
 unfolding endWord
 end-words = refl
-
--- A STEP, as the code makes it
-module _ (row : List ℕ) (r : Reply Walk) {a : ℕ} (e : a ≡ r .answer) where
-  pub step-answer : a ≡ inWords row r .answer
-  unfolding inWords
-  step-answer = e
-
-  pub step-refused : (a ≡ 0 → ⊥) → row ≡ inWords row r .after
-  unfolding inWords
-  step-refused n = refused-lent row (walkWords (r .after)) (r .answer) (λ z. n (e ∙ z))
-
-  pub step-accepted : a ≡ 0 → {new : List ℕ} {s : Walk} → new ≡ walkWords s → s ≡ r .after → new ≡ inWords row r .after
-  unfolding inWords
-  step-accepted z p q = rw (← e, z) (accepted-lent row (walkWords (r .after)) (p ∙ ap walkWords q))

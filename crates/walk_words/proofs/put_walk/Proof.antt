@@ -4,8 +4,8 @@ use mathlib.Core.Path.{ap}
 use mathlib.Core.List.{List, [], _∷_}
 use Prim.Native.Nat.{ℕ}
 use borrow.Author.Needs.{needs}
-use Rattle.gilstavo.proofs.put_walk.Statement.{statement}
-use Rattle.gilstavo.proofs.put_walk.Tie as tie
+use Rattle.walk_words.proofs.put_walk.Statement.{statement}
+use Rattle.walk_words.proofs.put_walk.Tie as tie
 
 returns : tie.Need-returns
 returns c =

@@ -4,9 +4,9 @@ use mathlib.Core.Path.{refl, sym}
 use native.Mathlib.Omega.{arith}
 use borrow.Author.Needs.{needs}
 use Rattle.walk.specs.Walks.{endOf}
-use Rattle.gilstavo.proofs.Words.{stray, its-walk}
-use Rattle.gilstavo.proofs.walk_of.Statement.{statement}
-use Rattle.gilstavo.proofs.walk_of.Tie as tie
+use Rattle.walk_words.proofs.Words.{stray, its-walk}
+use Rattle.walk_words.proofs.walk_of.Statement.{statement}
+use Rattle.walk_words.proofs.walk_of.Tie as tie
 
 returns : tie.Need-returns
 unfolding endOf

@@ -2,10 +2,10 @@
 -- Rests on Words.
 use mathlib.Core.Path.{sym, ap}
 use Rattle.walk.specs.Walks.{endOf}
-use Rattle.gilstavo.specs.WalkWords.{endIn}
-use Rattle.gilstavo.proofs.Words.{last-end}
-use Rattle.gilstavo.proofs.end_of.Statement.{statement}
-use Rattle.gilstavo.proofs.end_of.Tie as tie
+use Rattle.walk_words.specs.WalkWords.{endIn}
+use Rattle.walk_words.proofs.Words.{last-end}
+use Rattle.walk_words.proofs.end_of.Statement.{statement}
+use Rattle.walk_words.proofs.end_of.Tie as tie
 
 returns : tie.Need-returns
 unfolding endIn endOf
