@@ -1,12 +1,12 @@
 -- The tests of one copy in their order.
--- Rests on Records.
+-- Rests on BadCopy.
 use borrow.Author.Needs.{needs}
 use mathlib.Core.Path.{refl, sym, ap, _∙_}
 use mathlib.Core.Bool.{true, false, not}
 use borrow.Author.Tests.{lt-ltb, le-ltb}
-use Rattle.bounded_check.proofs.Records.{copy-is}
-use Rattle.bounded_check.proofs.is_bad_copy.Statement.{statement}
-use Rattle.bounded_check.proofs.is_bad_copy.Tie as tie
+use Rattle.copy_check.proofs.BadCopy.{copy-is}
+use Rattle.copy_check.proofs.is_bad_copy.Statement.{statement}
+use Rattle.copy_check.proofs.is_bad_copy.Tie as tie
 
 returns : tie.Need-returns
 returns c = sym (copy-is _ _ _ _ true _ _ _ (sym (c .before .is-outside .ensures) ∙ c .if1 .taken) refl refl refl)

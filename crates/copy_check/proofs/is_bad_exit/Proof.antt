@@ -1,8 +1,8 @@
 -- A copy of block 2, its low and its first edge.
 -- Rests on nothing.
 use borrow.Author.Tests.{eq-eqb, ne-eqb}
-use Rattle.bounded_check.proofs.is_bad_exit.Statement.{statement}
-use Rattle.bounded_check.proofs.is_bad_exit.Tie as tie
+use Rattle.copy_check.proofs.is_bad_exit.Statement.{statement}
+use Rattle.copy_check.proofs.is_bad_exit.Tie as tie
 
 returns : tie.Need-returns
 returns c = rw (ne-eqb _ 2 (c .if1 .taken))

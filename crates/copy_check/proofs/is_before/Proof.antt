@@ -6,8 +6,8 @@ use native.Mathlib.Omega.{arith}
 use lib.Dec.{eqb, ltb}
 use borrow.Author.Tests.{lt-ltb, le-ltb, eq-eqb, ne-eqb}
 use Rattle.base.specs.Copy.{before}
-use Rattle.bounded_check.proofs.is_before.Statement.{statement}
-use Rattle.bounded_check.proofs.is_before.Tie as tie
+use Rattle.copy_check.proofs.is_before.Statement.{statement}
+use Rattle.copy_check.proofs.is_before.Tie as tie
 
 returns : tie.Need-returns
 unfolding before

@@ -4,9 +4,9 @@ use borrow.Author.Needs.{needs}
 use Prim.Native.Nat.{_+_, _-_}
 use native.Mathlib.Omega.{arith}
 use Rattle.formats.specs.Words.{nextFrom}
-use Rattle.bounded_check.proofs.Edges.{Chained, chain-begins, chain-ends, edge-beyond, edge-other, edge-due}
-use Rattle.bounded_check.proofs.chain_end.Statement.{statement}
-use Rattle.bounded_check.proofs.chain_end.Tie as tie
+use Rattle.record_check.proofs.Edges.{Chained, chain-begins, chain-ends, edge-beyond, edge-other, edge-due}
+use Rattle.record_check.proofs.chain_end.Statement.{statement}
+use Rattle.record_check.proofs.chain_end.Tie as tie
 
 abbrev Inv-loop : tie.InvT-loop
 Inv-loop s base m first due x₀ e₀ x e = Chained (nextFrom s base) m first due x e

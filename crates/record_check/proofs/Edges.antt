@@ -14,7 +14,7 @@ use Rattle.formats.specs.Words.{follow}
 use Rattle.formats.specs.BoundedSheet.{Heading, firstAt, nextAt, chainAt}
 use Rattle.formats.specs.Rule11.{badEdgeOrder}
 use Rattle.formats.proofs.Chains.{follow-end, follow-more}
-use Rattle.bounded_check.specs.Chains.{edgesUpTo, Consecutive}
+use Rattle.record_check.specs.Chains.{edgesUpTo, Consecutive}
 
 -- the edge e is due, and no edge is due behind the last
 edges-more : (m e : ℕ) → e ≤ m → edgesUpTo m e ≡ e ∷ edgesUpTo m (e + 1)

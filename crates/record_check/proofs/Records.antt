@@ -1,5 +1,5 @@
 -- One pass over the copies: a copy that is wrong by itself or behind the one before it, the copies of blocks 1 and 2, and the edge order.
--- Rests on base Truth and Search, formats Rule11, Copies, Edges, specs Parts.
+-- Rests on base Truth and Search, formats Rule11, copy_check BadCopy, Copies, Edges, specs Records.
 use mathlib.Core.Path.{_≡_, refl, sym, ap, _∙_}
 use mathlib.Core.Bool.{Bool, true, false, _&&_, _||_, not, or-assoc}
 use mathlib.Core.List.{List}
@@ -17,11 +17,12 @@ use Rattle.base.proofs.Search.{Search}
 use Rattle.formats.specs.Limits.{mostBlocks}
 use Rattle.formats.specs.BoundedSheet.{Heading, blockAt, lowAt, firstAt, nextAt, copyAt}
 use Rattle.formats.specs.Rule11.{badBlocks, badLows, badCopyOrder, copiesOf, notOneOf, badExit, badEdgeOrder}
-use Rattle.bounded_check.specs.Parts.{badRecords, badCopy}
-use Rattle.bounded_check.specs.Chains.{Consecutive}
-use Rattle.bounded_check.proofs.Copies.{any-keep, Count, count-begins, counts, all-counted}
-use Rattle.bounded_check.proofs.Edges as edges
-use Rattle.bounded_check.proofs.Edges.{Following}
+use Rattle.copy_check.specs.BadCopy.{badCopy}
+use Rattle.record_check.specs.Records.{badRecords}
+use Rattle.record_check.specs.Chains.{Consecutive}
+use Rattle.record_check.proofs.Copies.{any-keep, Count, count-begins, counts, all-counted}
+use Rattle.record_check.proofs.Edges as edges
+use Rattle.record_check.proofs.Edges.{Following}
 
 -- a test that comes true only where the first does is left out
 spared : (a b z o x : Bool) → (z ≡ true → a ≡ true) → (a || (b || ((z || o) || x))) ≡ (a || (b || (o || x)))
@@ -35,12 +36,6 @@ over-true true b c = refl
 over-true false true c = refl
 over-true false false true = refl
 over-true false false false = refl
-
--- a copy by what its tests say; behind one that holds they may say anything
-pub copy-is : (b : ℕ) (c d : Copy) (first : ℕ) (p q r t : Bool) → outside 1 mostBlocks (d .block) ≡ p → ltb b (d .low) ≡ q
-    → not (before c d) ≡ r → (eqb (d .block) 2 && not (eqb (d .low) 0 && eqb first 0)) ≡ t → badCopy b c d first ≡ (p || (q || (r || t)))
-unfolding badCopy
-copy-is b c d first p q r t e f g k = λ i. e i || (f i || (g i || k i))
 
 module _ (h : Heading) (s : List ℕ) where
   abbrev n : ℕ

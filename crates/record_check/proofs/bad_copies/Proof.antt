@@ -4,9 +4,9 @@ use borrow.Author.Needs.{needs}
 use Prim.Native.Nat.{_+_, _-_}
 use native.Mathlib.Omega.{arith}
 use Rattle.formats.specs.BoundedSheet.{headingOf}
-use Rattle.bounded_check.proofs.Records.{Checking, begin, bad-copy, bad-chain, goes-on, bad-ones, bad-twos, bad-end}
-use Rattle.bounded_check.proofs.bad_copies.Statement.{statement}
-use Rattle.bounded_check.proofs.bad_copies.Tie as tie
+use Rattle.record_check.proofs.Records.{Checking, begin, bad-copy, bad-chain, goes-on, bad-ones, bad-twos, bad-end}
+use Rattle.record_check.proofs.bad_copies.Statement.{statement}
+use Rattle.record_check.proofs.bad_copies.Tie as tie
 
 abbrev Inv-loop : tie.InvT-loop
 Inv-loop s at c f b base w₀ l₀ ones₀ twos₀ e₀ i₀ w l ones twos e i = Checking (headingOf at c f b) s i w l ones twos e
