@@ -5,9 +5,9 @@ use native.Mathlib.Omega.{arith}
 use borrow.Author.Needs.{needs}
 use lib.ListN.{length}
 use Rattle.formats.proofs.Chains.{inside-here}
-use Rattle.text.proofs.Targets.{Going, going-begins, going-room, going-on, chain-ends, fuel-ends}
-use Rattle.text.proofs.write_targets.Statement.{statement}
-use Rattle.text.proofs.write_targets.Tie as tie
+use Rattle.copy_line.proofs.Targets.{Going, going-begins, going-room, going-on, chain-ends, fuel-ends}
+use Rattle.copy_line.proofs.write_targets.Statement.{statement}
+use Rattle.copy_line.proofs.write_targets.Tie as tie
 
 abbrev Inv-loop : tie.InvT-loop
 Inv-loop s text₀ p base m first q₀ e₀ k₀ text q e k = Going s base m first text₀ p text q k e

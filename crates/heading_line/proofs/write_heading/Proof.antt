@@ -1,12 +1,12 @@
 -- The heading's three names and numbers, then the newline.
--- Rests on Due and Lines.
+-- Rests on digits Due, Heading.
 use native.Mathlib.Omega.{arith}
 use borrow.Author.Needs.{needs}
 use Rattle.digits.proofs.Due.{wrote-then}
-use Rattle.text.specs.Texts.{headingText}
-use Rattle.text.proofs.Lines.{heading-length}
-use Rattle.text.proofs.write_heading.Statement.{statement}
-use Rattle.text.proofs.write_heading.Tie as tie
+use Rattle.heading_line.specs.Heading.{headingText}
+use Rattle.heading_line.proofs.Heading.{heading-length}
+use Rattle.heading_line.proofs.write_heading.Statement.{statement}
+use Rattle.heading_line.proofs.write_heading.Tie as tie
 
 put-named-requires : tie.Need-put-named-requires
 put-named-requires c κs =

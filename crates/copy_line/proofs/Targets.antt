@@ -1,5 +1,5 @@
 -- The loop that writes the targets of a chain: one turn, and its ends.
--- Rests on base Lists, formats Words and Chains, digits Wrote, Spaced and Due, specs Texts.
+-- Rests on base Lists, formats Words and Chains, digits Wrote, Spaced and Due, specs Line.
 use mathlib.Core.Path.{_≡_, sym, ap, _∙_}
 use mathlib.Core.List.{List, [], _++_, map}
 use Prim.Native.Nat.{ℕ, suc, _+_, _-_, _≤_, _<_}
@@ -9,7 +9,7 @@ use Rattle.formats.specs.Words.{Inside, targetFrom, nextFrom, edgesFrom}
 use Rattle.formats.proofs.Chains.{follow-end, follow-out, follow-more, inside-next}
 use Rattle.digits.specs.Wrote.{Wrote}
 use Rattle.digits.specs.Spaced.{spaced}
-use Rattle.text.specs.Texts.{targetsText}
+use Rattle.copy_line.specs.Line.{targetsText}
 use Rattle.digits.proofs.Due.{Due, due-start, due-as, due-room, due-step, due-end}
 
 module _ (s : List ℕ) (base m first : ℕ) where

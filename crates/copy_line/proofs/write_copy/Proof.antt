@@ -1,5 +1,5 @@
 -- The copy's number, block, low and targets, then the newline.
--- Rests on Due, Kept and Lines.
+-- Rests on digits Due, Lines.
 use mathlib.Core.Path.{_≡_, sym, ap, _∙_}
 use Prim.Native.Nat.{_+_, _*_}
 use native.Mathlib.Omega.{arith}
@@ -7,12 +7,11 @@ use borrow.Author.Needs.{needs}
 use lib.ListN.{length}
 use Rattle.formats.specs.Listing.{decimal}
 use Rattle.digits.specs.Spaced.{spaced}
-use Rattle.text.specs.Texts.{copyText, targetsText, lineAt}
+use Rattle.copy_line.specs.Line.{copyText, targetsText, lineAt}
 use Rattle.digits.proofs.Due.{wrote-as, wrote-then}
-use Rattle.text.proofs.Kept.{chain-read}
-use Rattle.text.proofs.Lines.{line-read, copy-length}
-use Rattle.text.proofs.write_copy.Statement.{statement}
-use Rattle.text.proofs.write_copy.Tie as tie
+use Rattle.copy_line.proofs.Lines.{line-read, copy-length, chain-read}
+use Rattle.copy_line.proofs.write_copy.Statement.{statement}
+use Rattle.copy_line.proofs.write_copy.Tie as tie
 
 -- the line's length, by the numbers that were read
 read : (c : tie.After-field3) → let a = c .before .before .before .before .before .args in
