@@ -17,8 +17,8 @@ use Rattle.calls.specs.SheetGraph.{rowOf, rowsOf, boundedFor}
 use Rattle.calls.specs.Build.{tooMany}
 use Rattle.tables.specs.Rows.{edgesOf}
 use Rattle.tables.proofs.Rows.{edges-are}
-use Rattle.write.specs.Put.{putWords}
-use Rattle.write.proofs.Put.{put-more}
+use Rattle.put_words.specs.Put.{putWords}
+use Rattle.put_words.proofs.Put.{put-more}
 use Rattle.build_rows.specs.Within.{answerAt}
 
 -- words put at the front of a row

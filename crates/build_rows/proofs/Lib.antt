@@ -1,5 +1,5 @@
 -- The laws of a build in rows that are lent.
--- Rests on base, theory, formats, calls, graph_row, flatten, tables, descend, write.
+-- Rests on base, theory, formats, calls, graph_row, flatten, tables, descend, put_words, chain_records.
 -- 10, 22 and 0 by the counts: many-copies, many-edges, short-row, long-row
 pub mod Answers
 -- a build behind the front and behind weighing: front-refused, fits-not, fits

@@ -31,7 +31,7 @@ use Rattle.tables.specs.Tables.{marked, markedCopies}
 use Rattle.graph_row.specs.GraphRow.{blocksIn, graphIn, taskIn, Flat}
 use Rattle.graph_row.proofs.Setting.{row-setting}
 use Rattle.flatten.specs.Decoded.{Decoded}
-use Rattle.write.specs.Marked.{Marked}
+use Rattle.chain_records.specs.Marked.{Marked}
 use Rattle.build_rows.specs.Within.{Passes}
 
 -- MARKED COPIES are copies of the task, whose lows are completion costs of their blocks

@@ -25,10 +25,10 @@ use headers::HEADING_WORDS;
 use headers::budget;
 use look::fill_lows;
 use number::number;
+use put_words::put_three;
 use weigh_sheet::weigh_into;
 use words::MOST_BOUNDED_EDGES;
 use words::MOST_COPIES;
-use write::put_three;
 use write::write_records;
 
 // BEHIND WEIGHING

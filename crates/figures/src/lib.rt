@@ -1,5 +1,5 @@
 // What a report says of one sheet of a catalogue: its figures, its line, and the blocks that no kept path enters.
-// Rests on headers, file_words, build, front, unused, report_lines; the promise is an equation with calls Report `figures`.
+// Rests on headers, file_words, build, front, unused, sheet_lines; the promise is an equation with calls Report `figures`.
 ghost use mathlib.Core.Path.{_≡_};
 ghost use mathlib.Core.Option.{some, none};
 ghost use Prim.Native.Nat.{_≤_, _<_};
@@ -22,8 +22,8 @@ use front::MOST_WORDS;
 use front::front_sheet;
 use headers::read_header;
 use headers::read_heading;
-use report_lines::write_figures;
-use report_lines::write_refused;
+use sheet_lines::write_figures;
+use sheet_lines::write_refused;
 use unused::mark_first;
 use unused::mark_unused;
 use words::MOST_CELLS;

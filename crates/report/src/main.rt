@@ -17,8 +17,8 @@ use input::skip;
 use libc::STDIN_FILENO;
 use libc::STDOUT_FILENO;
 use report_lines::LINE_SIZE;
-use report_lines::UNUSED_SIZE;
 use tally::Tally;
+use unused_lines::UNUSED_SIZE;
 
 // What a length word cannot be: there is none.
 const NO_LENGTH: usize = 65536;

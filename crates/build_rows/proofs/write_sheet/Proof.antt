@@ -1,5 +1,5 @@
 -- The header's three words, then the records.
--- Rests on write Put, Answers, Ready.
+-- Rests on put_words Put, Answers, Ready.
 use borrow.Author.Needs.{needs}
 use mathlib.Core.Path.{_≡_, sym, ap, ap₂, subst, _∙_}
 use mathlib.Core.List.{List, [], _∷_}
@@ -10,8 +10,8 @@ use Rattle.base.specs.Copy.{Copy}
 use Rattle.formats.specs.BoundedSheet.{recordWords}
 use Rattle.calls.specs.SheetGraph.{rowsOf}
 use Rattle.graph_row.specs.GraphRow.{graphIn, taskIn}
-use Rattle.write.specs.Put.{putWords}
-use Rattle.write.proofs.Put.{put-length}
+use Rattle.put_words.specs.Put.{putWords}
+use Rattle.put_words.proofs.Put.{put-length}
 use Rattle.build_rows.proofs.Answers.{sheet-length, records-room, written}
 use Rattle.build_rows.proofs.Ready.{served}
 use Rattle.build_rows.proofs.write_sheet.Statement.{statement}

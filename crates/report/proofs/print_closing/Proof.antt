@@ -6,7 +6,7 @@ use native.Mathlib.Omega.{arith}
 use borrow.Author.Needs.{needs}
 use lib.ListN.{length, length-replicate}
 use lib.Seq.{length-take-le}
-use Rattle.report_lines.specs.Lines.{unusedRoom}
+use Rattle.unused_lines.specs.Room.{unusedRoom}
 use Rattle.report.proofs.print_closing.Statement.{statement}
 use Rattle.report.proofs.print_closing.Tie as tie
 
