@@ -14,10 +14,10 @@ use Rattle.base.specs.Cells.{cellOf}
 use Rattle.calls.specs.Area.{stands, withCell, cleared}
 use Rattle.calls.proofs.Area.{set-others, cleared-filling, cleared-stands}
 use Rattle.masks.specs.Masks.{inMask, Empty, Put, Common}
-use Rattle.weigh.specs.Masked.{Mirror, Kept}
-use Rattle.weigh.specs.States.{Ready, Fair, Wider}
-use Rattle.weigh.proofs.Cells.{ready-on}
-use Rattle.weigh.proofs.Written.{wrote-here, wrote-stays, wrote-same, wrote-filling, wrote-fair}
+use Rattle.block_cost.specs.Masked.{Mirror, Kept}
+use Rattle.block_cost.specs.States.{Ready, Fair, Wider}
+use Rattle.block_cost.proofs.Cells.{ready-on}
+use Rattle.block_cost.proofs.Written.{wrote-here, wrote-stays, wrote-same, wrote-filling, wrote-fair}
 
 -- MORE CELLS SET
 pub wider-then : {g : Graph} {n b : ℕ} {first area after : List ℕ} → Wider g n b first area → Wider g n b area after

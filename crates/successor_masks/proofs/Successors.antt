@@ -1,5 +1,5 @@
 -- The masks of the successors, block by block and successor by successor.
--- Rests on masks Masks, specs Joined and Masked.
+-- Rests on masks Masks, specs Joined and Nexts.
 use mathlib.Core.Path.{_≡_, refl, sym, ap, subst, _∙_}
 use mathlib.Core.Bool.{true, false}
 use mathlib.Core.List.{List, [], _∷_, List·Memᴰ, List·Memᴰ·head, List·Memᴰ·tail}
@@ -11,8 +11,8 @@ use lib.ListN.{length, drop}
 use Rattle.base.proofs.Truth.{not-both}
 use Rattle.theory.specs.Completions.{Graph}
 use Rattle.masks.specs.Masks.{inMask, Empty, Put}
-use Rattle.weigh.specs.Joined.{Joined}
-use Rattle.weigh.specs.Masked.{Nexts}
+use Rattle.successor_masks.specs.Joined.{Joined}
+use Rattle.successor_masks.specs.Nexts.{Nexts}
 
 -- of v, below which all are listed, those are listed that are not among the last of its successors, ts
 pub record Listed (g : Graph) (n v : ℕ) (first nexts ts : List ℕ) : Type 0 where

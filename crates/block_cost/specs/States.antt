@@ -1,5 +1,5 @@
 -- The work area while it is filled: what is asked of it, which costs it stands for, and what is kept.
--- Rests on theory Completions, formats Limits, calls Area, Joined. A graph g of the blocks 1 to n, and the budget b.
+-- Rests on theory Completions, formats Limits, calls Area, successor_masks Joined. A graph g of the blocks 1 to n, and the budget b.
 use mathlib.Core.Path.{_≡_}
 use mathlib.Core.Bool.{true}
 use mathlib.Core.List.{List}
@@ -8,7 +8,7 @@ use lib.ListN.{length}
 use Rattle.theory.specs.Completions.{Graph, completes}
 use Rattle.formats.specs.Limits.{mostBudget}
 use Rattle.calls.specs.Area.{areaSize, stands, Filling}
-use Rattle.weigh.specs.Joined.{Joined}
+use Rattle.successor_masks.specs.Joined.{Joined}
 
 -- a graph of n blocks, a budget within its limit, and an area with room for both
 pub record Ready (g : Graph) (n b : ℕ) (area : List ℕ) : Type 0 where

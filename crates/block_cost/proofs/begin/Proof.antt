@@ -2,10 +2,10 @@
 -- Rests on Written, OneCost.
 use borrow.Author.Needs.{needs}
 use native.Mathlib.Omega.{arith}
-use Rattle.weigh.proofs.Written.{clear-fits, exit-fits, begun-filling, begun-fair}
-use Rattle.weigh.proofs.OneCost.{mirror-begun}
-use Rattle.weigh.proofs.begin.Statement.{statement}
-use Rattle.weigh.proofs.begin.Tie as tie
+use Rattle.block_cost.proofs.Written.{clear-fits, exit-fits, begun-filling, begun-fair}
+use Rattle.block_cost.proofs.OneCost.{mirror-begun}
+use Rattle.block_cost.proofs.begin.Statement.{statement}
+use Rattle.block_cost.proofs.begin.Tie as tie
 
 blocks-in-requires : tie.Need-blocks-in-requires
 blocks-in-requires c κs = omega (arith, c .before .before .before .pre .0 .room)

@@ -5,10 +5,10 @@ use mathlib.Core.Path.{sym, _∙_}
 use native.Mathlib.Omega.{arith}
 use borrow.Author.Tests.{not-true, not-false}
 use Rattle.graph_row.proofs.Laws.{cost-is}
-use Rattle.weigh.proofs.Cells.{cell}
-use Rattle.weigh.proofs.OneCost.{same-wide, wrote, wrote-it, mirror-put, met-completes, too-dear, unmet}
-use Rattle.weigh.proofs.settle.Statement.{statement}
-use Rattle.weigh.proofs.settle.Tie as tie
+use Rattle.block_cost.proofs.Cells.{cell}
+use Rattle.block_cost.proofs.OneCost.{same-wide, wrote, wrote-it, mirror-put, met-completes, too-dear, unmet}
+use Rattle.block_cost.proofs.settle.Statement.{statement}
+use Rattle.block_cost.proofs.settle.Tie as tie
 
 cost-in-requires : tie.Need-cost-in-requires
 cost-in-requires c κs =

@@ -1,14 +1,14 @@
 -- One block after the other; the measure is the blocks left.
--- Rests on specs Masked.
+-- Rests on specs Nexts.
 use borrow.Author.Needs.{needs}
 use mathlib.Core.Path.{_≡_, refl, subst, ap, _∙_}
 use Prim.Native.Nat.{ℕ, _+_, _-_, _≤_}
 use native.Mathlib.Omega.{arith}
 use lib.ListN.{length}
 use Rattle.graph_row.specs.GraphRow.{blocksIn, graphIn}
-use Rattle.weigh.specs.Masked.{Nexts}
-use Rattle.weigh.proofs.list_all.Statement.{statement}
-use Rattle.weigh.proofs.list_all.Tie as tie
+use Rattle.successor_masks.specs.Nexts.{Nexts}
+use Rattle.successor_masks.proofs.list_all.Statement.{statement}
+use Rattle.successor_masks.proofs.list_all.Tie as tie
 
 abbrev Inv-loop : tie.InvT-loop
 Inv-loop row nexts₀ n v₀ nexts v =

@@ -15,8 +15,8 @@ use Rattle.formats.specs.Limits.{mostBlocks, mostBudget}
 use Rattle.calls.specs.Area.{areaSize, stands, HasCell, withCell, cleared, Filling}
 use Rattle.calls.proofs.Area.{cleared-filling, cleared-stands, set-length, set-filling, set-stands, set-others, set-stays}
 use Rattle.cells.specs.Cells.{Within}
-use Rattle.weigh.specs.States.{Ready, Fair}
-use Rattle.weigh.proofs.Cells.{cell, ready-on}
+use Rattle.block_cost.specs.States.{Ready, Fair}
+use Rattle.block_cost.proofs.Cells.{cell, ready-on}
 
 -- ONE CELL SET
 module _ {g : Graph} {n b : ℕ} {area after : List ℕ} (S : Ready g n b area)

@@ -7,10 +7,10 @@ use lib.ListN.{drop, length-drop}
 use Rattle.graph_row.specs.GraphRow.{blocksIn, graphIn}
 use Rattle.graph_row.proofs.Laws.{next-length}
 use Rattle.graph_row.proofs.Successors.{next-inside, next-mem, next-left}
-use Rattle.weigh.proofs.Flat.{joined}
-use Rattle.weigh.proofs.Successors.{Listed, listed-none, listed-next, listed-all}
-use Rattle.weigh.proofs.list_block.Statement.{statement}
-use Rattle.weigh.proofs.list_block.Tie as tie
+use Rattle.successor_masks.proofs.Flat.{joined}
+use Rattle.successor_masks.proofs.Successors.{Listed, listed-none, listed-next, listed-all}
+use Rattle.successor_masks.proofs.list_block.Statement.{statement}
+use Rattle.successor_masks.proofs.list_block.Tie as tie
 
 abbrev Inv-loop : tie.InvT-loop
 Inv-loop row nexts₀ v a d i₀ nexts i = (i ≤ d) × Listed (graphIn row) (blocksIn row) v nexts₀ nexts (drop i (graphIn row .next v))
