@@ -1,5 +1,5 @@
 // The public calls on numbers and slices, for C and Rust: a slice crosses as a pointer and a length, a walk as a row of three words.
-// Rests on graph_check, weigh_sheet, build, bounded_check, reader, walk_words and both moves; the promises are theirs, and Steps for walks.
+// Rests on graph_check, successors, weigh_sheet, build, bounded_check, reader, walk_words and both moves; the promises are theirs, and Steps for walks.
 ghost use mathlib.Core.Path.{_≡_};
 ghost use Rattle.formats.specs.GraphSheet.{sheetRefusal, countSuccessors};
 ghost use Rattle.formats.specs.Rule11.{boundedRefusal, handOut};
@@ -15,9 +15,9 @@ use bounded_check::check_bounded;
 use bounded_moves::bounded_move;
 use build::build;
 use graph_check::check_graph;
-use graph_check::count_successors;
 use guarded_moves::guarded_move;
 use reader::edge_words_place;
+use successors::count_successors;
 use walk::Walk;
 use walk_words::put_walk;
 use walk_words::walk_of;

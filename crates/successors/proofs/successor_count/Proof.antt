@@ -6,8 +6,8 @@ use native.Mathlib.Omega.{arith}
 use Rattle.formats.specs.Words.{chainLength}
 use Rattle.formats.specs.GraphSheet.{headerOf, nextWord, successorCount}
 use Rattle.formats.proofs.Accepted.{chain-inside}
-use Rattle.graph_check.proofs.successor_count.Statement.{statement}
-use Rattle.graph_check.proofs.successor_count.Tie as tie
+use Rattle.successors.proofs.successor_count.Statement.{statement}
+use Rattle.successors.proofs.successor_count.Tie as tie
 
 field-requires : tie.Need-field-requires
 field-requires c κs = let z = c .before in (z .pre .1 .0, omega arith, omega (arith, z .pre .0 .form .size))

@@ -8,9 +8,9 @@ use native.Mathlib.Omega.{arith}
 use Rattle.base.proofs.Orders.{inside-of}
 use Rattle.formats.specs.GraphSheet.{Header, Sound}
 use Rattle.formats.proofs.Accepted.{accepted}
-use Rattle.graph_check.proofs.Counting.{sheet-refused, block-refused, counted}
-use Rattle.graph_check.proofs.count_successors.Statement.{statement}
-use Rattle.graph_check.proofs.count_successors.Tie as tie
+use Rattle.successors.proofs.Counting.{sheet-refused, block-refused, counted}
+use Rattle.successors.proofs.count_successors.Statement.{statement}
+use Rattle.successors.proofs.count_successors.Tie as tie
 
 returns : tie.Need-returns
 returns c = sheet-refused _ _ (c .before .check-graph .ensures) (c .if1 .taken)

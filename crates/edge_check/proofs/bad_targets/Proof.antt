@@ -1,5 +1,5 @@
 -- A search for an edge whose target is no block that may be entered.
--- Rests on base Search, Conditions.
+-- Rests on base Search, Targets.
 use borrow.Author.Needs.{needs}
 use mathlib.Core.Path.{refl, sym, ap, _∙_}
 use Prim.Native.Nat.{ℕ, _+_, _-_}
@@ -7,9 +7,9 @@ use native.Mathlib.Omega.{arith}
 use Rattle.base.specs.Checks.{outside}
 use Rattle.formats.specs.GraphSheet.{headerOf, badTargets}
 use Rattle.base.proofs.Search.{Search, begin, found, onward, none}
-use Rattle.graph_check.proofs.Conditions.{stray, targets-are}
-use Rattle.graph_check.proofs.bad_targets.Statement.{statement}
-use Rattle.graph_check.proofs.bad_targets.Tie as tie
+use Rattle.edge_check.proofs.Targets.{stray, targets-are}
+use Rattle.edge_check.proofs.bad_targets.Statement.{statement}
+use Rattle.edge_check.proofs.bad_targets.Tie as tie
 
 abbrev Inv-loop : tie.InvT-loop
 Inv-loop s at n m base e₀ e = Search (badTargets (headerOf at n m) s) (stray (headerOf at n m) s) m e

@@ -5,9 +5,9 @@ use mathlib.Core.Path.{_∙_}
 use Prim.Native.Nat.{_+_, _-_}
 use native.Mathlib.Omega.{arith}
 use Rattle.formats.specs.GraphSheet.{headerOf}
-use Rattle.graph_check.proofs.Following.{Following, begin, broken, onward, all-done}
-use Rattle.graph_check.proofs.bad_chains.Statement.{statement}
-use Rattle.graph_check.proofs.bad_chains.Tie as tie
+use Rattle.edge_check.proofs.Following.{Following, begin, broken, onward, all-done}
+use Rattle.edge_check.proofs.bad_chains.Statement.{statement}
+use Rattle.edge_check.proofs.bad_chains.Tie as tie
 
 abbrev Inv-loop : tie.InvT-loop
 Inv-loop s at n m base seen₀ v₀ seen v = Following (headerOf at n m) s seen v

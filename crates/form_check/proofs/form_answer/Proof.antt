@@ -1,5 +1,5 @@
 -- Conditions 1 to 4 in their order.
--- Rests on Conditions.
+-- Rests on Form.
 use borrow.Author.Needs.{needs}
 use mathlib.Core.Path.{_≡_, refl, sym, _∙_}
 use mathlib.Core.Bool.{true, false}
@@ -10,9 +10,9 @@ use lib.ListN.{length}
 use borrow.Author.Tests.{lt-ltb, le-ltb}
 use Rattle.formats.specs.Limits.{mostBudget, leastWords}
 use Rattle.formats.specs.GraphSheet.{budgetIn, short, badBudget}
-use Rattle.graph_check.proofs.Conditions.{form-answer, counts-are, length-fits, length-differs}
-use Rattle.graph_check.proofs.form_answer.Statement.{statement}
-use Rattle.graph_check.proofs.form_answer.Tie as tie
+use Rattle.form_check.proofs.Form.{form-answer, counts-are, length-fits, length-differs}
+use Rattle.form_check.proofs.form_answer.Statement.{statement}
+use Rattle.form_check.proofs.form_answer.Tie as tie
 
 not-short : (w : List ℕ) → leastWords ≤ length w → short w ≡ false
 unfolding short
