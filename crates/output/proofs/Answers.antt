@@ -1,5 +1,5 @@
 -- The answers of a build of a task: 10 and 22 by the counts of copies and edges.
--- Rests on formats Reading, calls Build, tables Rows, specs Within.
+-- Rests on formats Reading, calls Build, tables Rows, put_words Put, specs Answer.
 use mathlib.Core.Path.{_≡_, refl, sym, ap, ap₂, _∙_}
 use mathlib.Core.Bool.{true, false}
 use mathlib.Core.List.{List, [], _∷_, _++_}
@@ -19,7 +19,7 @@ use Rattle.tables.specs.Rows.{edgesOf}
 use Rattle.tables.proofs.Rows.{edges-are}
 use Rattle.put_words.specs.Put.{putWords}
 use Rattle.put_words.proofs.Put.{put-more}
-use Rattle.build_rows.specs.Within.{answerAt}
+use Rattle.output.specs.Answer.{answerAt}
 
 -- words put at the front of a row
 put-front : (out ws : List ℕ) → putWords out 0 ws ≡ ws ++ drop (length ws) out

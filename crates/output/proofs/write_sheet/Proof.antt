@@ -1,5 +1,5 @@
 -- The header's three words, then the records.
--- Rests on put_words Put, Answers, Ready.
+-- Rests on put_words Put, Answers, Served.
 use borrow.Author.Needs.{needs}
 use mathlib.Core.Path.{_≡_, sym, ap, ap₂, subst, _∙_}
 use mathlib.Core.List.{List, [], _∷_}
@@ -12,10 +12,10 @@ use Rattle.calls.specs.SheetGraph.{rowsOf}
 use Rattle.graph_row.specs.GraphRow.{graphIn, taskIn}
 use Rattle.put_words.specs.Put.{putWords}
 use Rattle.put_words.proofs.Put.{put-length}
-use Rattle.build_rows.proofs.Answers.{sheet-length, records-room, written}
-use Rattle.build_rows.proofs.Ready.{served}
-use Rattle.build_rows.proofs.write_sheet.Statement.{statement}
-use Rattle.build_rows.proofs.write_sheet.Tie as tie
+use Rattle.output.proofs.Answers.{sheet-length, records-room, written}
+use Rattle.output.proofs.Served.{served}
+use Rattle.output.proofs.write_sheet.Statement.{statement}
+use Rattle.output.proofs.write_sheet.Tie as tie
 
 put-three-requires : tie.Need-put-three-requires
 put-three-requires c κs =

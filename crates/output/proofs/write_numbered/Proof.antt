@@ -7,10 +7,10 @@ use native.Mathlib.Omega.{arith}
 use lib.ListN.{length}
 use Rattle.calls.specs.SheetGraph.{boundedFor}
 use Rattle.graph_row.specs.GraphRow.{taskIn}
-use Rattle.build_rows.specs.Within.{outputAt}
-use Rattle.build_rows.proofs.Answers.{sheet-length, many-copies, short-row, long-row}
-use Rattle.build_rows.proofs.write_numbered.Statement.{statement}
-use Rattle.build_rows.proofs.write_numbered.Tie as tie
+use Rattle.output.specs.Answer.{outputAt}
+use Rattle.output.proofs.Answers.{sheet-length, many-copies, short-row, long-row}
+use Rattle.output.proofs.write_numbered.Statement.{statement}
+use Rattle.output.proofs.write_numbered.Tie as tie
 
 returns : tie.Need-returns
 unfolding outputAt
