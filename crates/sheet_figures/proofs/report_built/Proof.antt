@@ -4,9 +4,9 @@ use mathlib.Core.Path.{ap, _∙_}
 use native.Mathlib.Omega.{arith}
 use borrow.Author.Needs.{needs}
 use Rattle.formats.specs.GraphSheet.{Header}
-use Rattle.figures.proofs.Said.{sheet-long, blocks-most, rule-kept, bounded-long, accepted-small, accepted-says}
-use Rattle.figures.proofs.report_built.Statement.{statement}
-use Rattle.figures.proofs.report_built.Tie as tie
+use Rattle.sheet_figures.proofs.Said.{sheet-long, blocks-most, rule-kept, bounded-long, accepted-small, accepted-says}
+use Rattle.sheet_figures.proofs.report_built.Statement.{statement}
+use Rattle.sheet_figures.proofs.report_built.Tie as tie
 
 read-header-requires : tie.Need-read-header-requires
 read-header-requires c κs = let z = c .before .before .before .before in sheet-long _ (z .pre .0)

@@ -1,9 +1,9 @@
 -- No mark, and the line.
 -- Rests on Said.
 use borrow.Author.Needs.{needs}
-use Rattle.figures.proofs.Said.{refused-says, refused-small}
-use Rattle.figures.proofs.report_refused.Statement.{statement}
-use Rattle.figures.proofs.report_refused.Tie as tie
+use Rattle.sheet_figures.proofs.Said.{refused-says, refused-small}
+use Rattle.sheet_figures.proofs.report_refused.Statement.{statement}
+use Rattle.sheet_figures.proofs.report_refused.Tie as tie
 
 returns : tie.Need-returns
 returns c =

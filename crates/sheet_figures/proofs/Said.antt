@@ -10,20 +10,19 @@ use Rattle.formats.specs.Limits.{leastWords, mostBlocks, mostCopies, mostBounde
 use Rattle.formats.specs.GraphSheet.{Header, header}
 use Rattle.formats.specs.BoundedSheet.{Heading, heading}
 use Rattle.formats.specs.Rule11.{boundedRefusal}
-use Rattle.formats.specs.Report.{Figures, unusedBlocks, refusedAs, figuresLine, refusedLine, sheetLine}
+use Rattle.formats.specs.Report.{unusedBlocks, refusedAs, figuresLine, refusedLine, sheetLine}
 use Rattle.formats.proofs.Accepted.{accepted}
 use Rattle.formats.proofs.RuleRead.{clauses}
 use Rattle.calls.specs.SheetGraph.{boundedSheet}
 use Rattle.calls.specs.Program.{listingOrder}
-use Rattle.calls.specs.Report.{acceptedFigures, sheetFigures}
+use Rattle.calls.specs.Report.{acceptedFigures}
 use Rattle.calls.proofs.Built.{keeps-rule}
-use Rattle.calls.proofs.Unused.{sheet-accepted, sheet-refused, listed}
+use Rattle.calls.proofs.Unused.{listed}
 use Rattle.digits.specs.Wrote.{Wrote}
 use Rattle.digits.proofs.Due.{wrote-as}
 use Rattle.unused.specs.Marks.{markedBlocks, First}
 use Rattle.unused.proofs.Named.{names-none}
-use Rattle.figures.specs.declared.Reported.{Reported}
-use Rattle.figures.specs.Says.{Says, Small}
+use Rattle.sheet_figures.specs.Says.{Says, Small}
 
 -- A REFUSED SHEET
 by-number : (p n : ℕ) → 0 < n → sheetLine p (refusedAs n) ≡ refusedLine p n
@@ -87,12 +86,3 @@ module _ (w : List ℕ) (e : refused listingOrder w ≡ 0) where
         line = wrote-as (l .0) (rw (i, j, k));
         inside = l .1;
       }
-
--- BY THE ANSWER
-module _ (w : List ℕ) {marks old text : List ℕ} {p : ℕ} {r : Reported} where
-  pub says-accepted : refused listingOrder w ≡ 0 → Says (acceptedFigures w) p r marks old text → Says (sheetFigures w) p r marks old text
-  says-accepted e S = subst (λ (f : Figures). Says f p r marks old text) (sym (sheet-accepted w e)) S
-
-  pub says-refused : {n : ℕ} → refused listingOrder w ≡ n → (n ≡ 0 → ⊥) → Says (refusedAs n) p r marks old text
-      → Says (sheetFigures w) p r marks old text
-  says-refused {n} e z S = subst (λ (f : Figures). Says f p r marks old text) (sym (sheet-refused w n e z)) S

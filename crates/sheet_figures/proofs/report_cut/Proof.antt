@@ -2,8 +2,8 @@
 -- Rests on calls Report.
 use borrow.Author.Needs.{needs}
 use Rattle.calls.specs.Report.{figures}
-use Rattle.figures.proofs.report_cut.Statement.{statement}
-use Rattle.figures.proofs.report_cut.Tie as tie
+use Rattle.sheet_figures.proofs.report_cut.Statement.{statement}
+use Rattle.sheet_figures.proofs.report_cut.Tie as tie
 
 returns : tie.Need-returns
 unfolding figures

@@ -1,19 +1,14 @@
 -- What a report says of a sheet, in what the code answers and leaves: its figures, its line and the marks of its unused blocks.
--- Rests on formats Limits, File and Report, calls Report, file_words Longer, digits Wrote, unused Marks.
+-- Rests on formats Limits and Report, digits Wrote, unused Marks.
 use mathlib.Core.Path.{_≡_}
-use mathlib.Core.Bool.{Bool, true, false}
 use mathlib.Core.List.{List}
-use mathlib.Core.Option.{some, none}
 use Prim.Native.Nat.{ℕ, _≤_}
-use lib.ListN.{length, take}
+use lib.ListN.{length}
 use Rattle.formats.specs.Limits.{mostBlocks, mostCopies, mostBoundedEdges}
-use Rattle.formats.specs.File.{wordsOf}
 use Rattle.formats.specs.Report.{Figures, sheetLine}
-use Rattle.calls.specs.Report.{figures}
-use Rattle.file_words.specs.Longer.{longerFile}
 use Rattle.digits.specs.Wrote.{Wrote}
 use Rattle.unused.specs.Marks.{markedBlocks}
-use Rattle.figures.specs.declared.Reported.{Reported}
+use Rattle.sheet_figures.specs.declared.Reported.{Reported}
 
 -- of the sheet at place p, with the figures f; its line is written into the row old
 pub record Says (f : Figures) (p : ℕ) (r : Reported) (marks old text : List ℕ) : Type 0 where
@@ -23,11 +18,6 @@ pub record Says (f : Figures) (p : ℕ) (r : Reported) (marks old text : List �
   pub unused : markedBlocks marks ≡ f .unused
   pub line : Wrote old 0 (sheetLine p f) text (r .size)
   pub inside : r .size ≤ length text
-
--- bs is as much of the bytes of a sheet as is read, cut whether its length was beyond the words left
-pub record Reports (bs : List ℕ) (cut : Bool) (p : ℕ) (r : Reported) (marks old text : List ℕ) : Type 0 where
-  pub beyond : cut ≡ true → Says (figures none) p r marks old text
-  pub whole : (fs : List ℕ) → cut ≡ false → bs ≡ take longerFile fs → Says (figures (some (wordsOf fs))) p r marks old text
 
 -- no more than the limits allow
 pub record Small (r : Reported) : Type 0 where
