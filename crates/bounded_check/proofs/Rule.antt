@@ -1,5 +1,5 @@
 -- Rule 11 in its three parts, as functions that return early find them.
--- Rests on base Orders and Truth, formats RuleRead, specs Parts.
+-- Rests on base Orders and Truth, formats RuleRead, record_check Records, specs Form.
 use mathlib.Core.Path.{_≡_, refl, sym, ap, subst, _∙_}
 use mathlib.Core.Bool.{Bool, true, false, _||_, not, or-assoc, or-false}
 use mathlib.Core.List.{List, [], _∷_, map}
@@ -16,7 +16,8 @@ use Rattle.formats.specs.BoundedSheet.{Heading, headingOf, heading}
 use Rattle.formats.specs.Rule11.{tooShort, badLimits, wrongLength, largeBudget, badBlocks, badLows, badCopyOrder}
 use Rattle.formats.specs.Rule11.{notOneOf, badExit, badEdgeOrder, badTargetWords, boundedOrder, boundedRefusal, Formed}
 use Rattle.formats.proofs.RuleRead.{formed}
-use Rattle.bounded_check.specs.Parts.{badForm, badRecords}
+use Rattle.record_check.specs.Records.{badRecords}
+use Rattle.bounded_check.specs.Form.{badForm}
 
 -- conditions that all have one number: it is answered where some condition holds
 one-number : {I : Type 0} (k : ℕ) (fs : List (I → Bool)) (i : I) → refused (map (λ f. (k, f)) fs) i ≡ pick (any (λ f. f i) fs) k 0

@@ -1,6 +1,4 @@
 -- What the contracts below the public call cite; the public call cites formats alone.
--- Rests on base, formats.
--- rule 11 in three parts; a bad copy
-pub mod Parts
--- chains whose edges are consecutive numbers
-pub mod Chains
+-- Rests on formats.
+-- the clauses on the header and the length: badForm
+pub mod Form

@@ -1,5 +1,5 @@
 -- A build behind the front and behind weighing: what is refused there, and what is decided by the counts and the output's length.
--- Rests on base Orders, calls Weigh and Build, specs Within.
+-- Rests on base Orders, calls Weigh and Build, output Answer.
 use mathlib.Core.Path.{_≡_, refl, sym, ap, _∙_}
 use mathlib.Core.Bool.{Bool, true, false}
 use mathlib.Core.List.{List, []}
@@ -16,7 +16,7 @@ use Rattle.calls.specs.Area.{filled}
 use Rattle.calls.specs.Weigh.{Weighing, nothingFits, fitOrder, frontOrder, weighOrder, beforeWeighing, areaAfter}
 use Rattle.calls.specs.Build.{Lent, tooMany, smallOutput, buildOrder, outputAfter, build, built}
 use Rattle.calls.proofs.Weigh.{weigh-numbered, front-numbered, front-early, spared, late-area}
-use Rattle.build_rows.specs.Within.{answerAt, outputAt}
+use Rattle.output.specs.Answer.{answerAt, outputAt}
 
 module _ (w area out : List ℕ) where
   abbrev lent : Lent

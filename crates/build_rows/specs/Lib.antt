@@ -1,4 +1,4 @@
 -- What the contracts of a build cite.
--- Rests on theory, formats, calls.
--- a build of a task, and a sheet that passes 1 to 8 and 21
+-- Rests on formats, calls.
+-- a sheet that passes 1 to 8 and 21: Passes
 pub mod Within

@@ -1,5 +1,5 @@
 -- What a tally and the marks stand for with one sheet more, from what is said of it; and with no sheet.
--- Rests on formats Limits and Report, digits Due, tally Tallies, figures Says, specs Standing, Marks, More.
+-- Rests on formats Limits and Report, digits Due, tally Tallies, sheet_figures Says, figures Reports, specs Standing, Marks, More.
 use mathlib.Core.Path.{_≡_, refl, sym, ap, subst, _∙_}
 use mathlib.Core.Logic.{_⊎_, inl, inr}
 use mathlib.Core.Bool.{Bool, _&&_, not}
@@ -17,8 +17,9 @@ use Rattle.digits.proofs.Due.{wrote-as}
 use Rattle.unused.specs.Marks.{markedBlocks}
 use Rattle.tally.specs.declared.Tally.{Tally}
 use Rattle.tally.specs.Tallies.{sumsOf, mostFrom, figured, Tallied}
-use Rattle.figures.specs.declared.Reported.{Reported}
-use Rattle.figures.specs.Says.{Says, Reports}
+use Rattle.sheet_figures.specs.declared.Reported.{Reported}
+use Rattle.sheet_figures.specs.Says.{Says}
+use Rattle.figures.specs.Reports.{Reports}
 use Rattle.catalogue.specs.declared.Step.{Step}
 use Rattle.catalogue.specs.Standing.{marksOf, Standing, Front, beyond, whole, Next}
 use Rattle.catalogue.proofs.Marks.{own-marks, other-marks}

@@ -1,5 +1,5 @@
 // A catalogue's report, sheet by sheet: the line of each, and then the closing parts. Below stream, which puts them together.
-// Rests on figures, tally, report_lines; lines and parts in order are the report (proofs Whole).
+// Rests on figures, tally, report_lines, unused_lines; lines and parts in order are the report (proofs Whole).
 ghost use mathlib.Core.Path.{_≡_};
 ghost use mathlib.Core.Bool.{_&&_, not};
 ghost use mathlib.Core.List.{List};
@@ -10,14 +10,15 @@ ghost use Rattle.formats.specs.Limits.{mostSheets};
 ghost use Rattle.formats.specs.Report.{Figures};
 ghost use Rattle.file_words.specs.Longer.{longerFile};
 ghost use Rattle.digits.specs.Wrote.{Wrote};
-ghost use Rattle.report_lines.specs.Lines.{lineRoom, unusedRoom};
+ghost use Rattle.report_lines.specs.Lines.{lineRoom};
+ghost use Rattle.unused_lines.specs.Room.{unusedRoom};
 ghost use Rattle.catalogue.specs.Standing.{Ready, Standing, Next};
 ghost use Rattle.catalogue.specs.Parts.{closingPart};
 use figures::report_item;
 use report_lines::write_most;
 use report_lines::write_total;
-use report_lines::write_unused;
 use tally::Tally;
+use unused_lines::write_unused;
 use words::MOST_BLOCKS;
 
 // The sheets of a catalogue; words after them are ignored.

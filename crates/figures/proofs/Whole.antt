@@ -1,5 +1,5 @@
 -- What is said of a whole sheet, from its first bytes.
--- Rests on front Read, calls Unused, specs Says.
+-- Rests on front Read, calls Unused, sheet_figures Says, specs Reports.
 use mathlib.Core.Path.{_≡_, refl, sym, ap, subst, _∙_}
 use mathlib.Core.Bool.{Bool, true, false}
 use mathlib.Core.List.{List}
@@ -13,8 +13,9 @@ use Rattle.calls.specs.Program.{listingOrder}
 use Rattle.calls.specs.Report.{sheetFigures, figures}
 use Rattle.calls.proofs.Unused.{sheet-refused}
 use Rattle.front.proofs.Read.{front-same}
-use Rattle.figures.specs.declared.Reported.{Reported}
-use Rattle.figures.specs.Says.{Says, Reports}
+use Rattle.sheet_figures.specs.declared.Reported.{Reported}
+use Rattle.sheet_figures.specs.Says.{Says}
+use Rattle.figures.specs.Reports.{Reports}
 
 -- sheets with the same refusal
 same-figures : (v w : List ℕ) → refused listingOrder v ≡ refused listingOrder w → (refused listingOrder v ≡ 0 → ⊥)

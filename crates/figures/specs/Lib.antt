@@ -1,2 +1,2 @@
--- what a report says of a sheet, in the rows that are lent: Says, Reports, Small
-pub mod Says
+-- what a report says of a sheet, from its first bytes: Reports
+pub mod Reports

@@ -1,5 +1,5 @@
 -- THE CALLS ON WORDS, as C and Rust have them: a move is that of the walk that three words stand for, and under a refusal the words stay.
--- Rests on base Checks, theory Machines and Walks, calls Moves and Demand, WalkWords.
+-- Rests on base Checks, theory Machines and Walks, calls Moves and Demand, walk_words WalkWords.
 use mathlib.Core.List.{List}
 use Prim.Native.Nat.{ℕ}
 use Rattle.base.specs.Checks.{lentAfter}
@@ -7,7 +7,7 @@ use Rattle.theory.specs.Machines.{Reply}
 use Rattle.theory.specs.Walks.{Walk, starting}
 use Rattle.calls.specs.Moves.{Move, guardedReply, boundedMove}
 use Rattle.calls.specs.Demand.{Calls, KeepsDemand3}
-use Rattle.gilstavo.specs.WalkWords.{walkIn, walkWords}
+use Rattle.walk_words.specs.WalkWords.{walkIn, walkWords}
 
 -- the words after a reply
 unfoldable pub inWords : List ℕ → Reply Walk → Reply (List ℕ)

@@ -1,7 +1,6 @@
 // The public calls on numbers and slices, for C and Rust: a slice crosses as a pointer and a length, a walk as a row of three words.
-// Rests on graph_check, weigh_sheet, build, bounded_check, reader and both moves; the promises are theirs, and WalkWords and Steps for walks.
+// Rests on graph_check, successors, weigh_sheet, build, bounded_check, reader, walk_words and both moves; the promises are theirs, and Steps for walks.
 ghost use mathlib.Core.Path.{_≡_};
-ghost use lib.ListN.{length, getD};
 ghost use Rattle.formats.specs.GraphSheet.{sheetRefusal, countSuccessors};
 ghost use Rattle.formats.specs.Rule11.{boundedRefusal, handOut};
 ghost use Rattle.theory.specs.Walks.{starting};
@@ -10,18 +9,18 @@ ghost use Rattle.calls.specs.Moves.{guardedMove};
 ghost use Rattle.calls.specs.Weigh.{weighed};
 ghost use Rattle.calls.specs.Build.{built};
 ghost use Rattle.reader.specs.Placed.{Placed};
-ghost use Rattle.walk.specs.Walks.{endOf, walkOf};
-ghost use Rattle.gilstavo.specs.WalkWords.{endIn, endWord, walkIn, walkWords};
+ghost use Rattle.walk_words.specs.WalkWords.{walkIn, walkWords};
 ghost use Rattle.gilstavo.specs.Steps.{guardedStep, boundedStep};
 use bounded_check::check_bounded;
 use bounded_moves::bounded_move;
 use build::build;
 use graph_check::check_graph;
-use graph_check::count_successors;
 use guarded_moves::guarded_move;
 use reader::edge_words_place;
-use walk::End;
+use successors::count_successors;
 use walk::Walk;
+use walk_words::put_walk;
+use walk_words::walk_of;
 use weigh_sheet::weigh_sheet;
 
 // 1 to 8, else 0.
@@ -92,58 +91,6 @@ pub extern "C" fn gilstavo_edge_words(
 }
 
 // WALKS
-
-// The end that a word up to 2 stands for.
-fn end_of(e: u16) -> End
-    ensures { λ r. ⌜ endOf r ≡ endIn e ⌝ }
-{
-    if e == 0 {
-        return End::Going;
-    }
-    if e == 1 {
-        return End::Exit;
-    }
-    End::Diverted
-}
-
-// The walk that three words stand for.
-fn walk_of(row: &[u16; 3]) -> Walk
-    ensures { λ r. ⌜ walkOf r ≡ walkIn (now (row .entry)) ⌝ }
-{
-    if 2 < row[2] {
-        return Walk {
-            place: 0,
-            count: 0,
-            end: End::Going,
-        };
-    }
-    let end = end_of(row[2]);
-    Walk {
-        place: row[0],
-        count: row[1],
-        end: end,
-    }
-}
-
-// The word of an end.
-fn end_word(end: End) -> u16
-    ensures { λ r. ⌜ r ≡ endWord (endOf end) ⌝ }
-{
-    match end {
-        End::Going => 0,
-        End::Exit => 1,
-        End::Diverted => 2,
-    }
-}
-
-// Writes a walk as three words.
-fn put_walk(row: &mut [u16; 3], w: Walk)
-    ensures { λ _. ⌜ now (row .exit) ≡ walkWords (walkOf w) ⌝ }
-{
-    let end = w.end;
-    let e = end_word(end);
-    *row = [w.place, w.count, e];
-}
 
 // The starting walk.
 #[no_mangle]

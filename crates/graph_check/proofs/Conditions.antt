@@ -1,27 +1,23 @@
--- The order of the conditions in its stages, and what the loops for 5 and 6 look for.
--- Rests on base Orders and Search, formats GraphSheet and Accepted, specs Headers.
+-- The order of the conditions in its stages, and what the loop for 5 looks for.
+-- Rests on base Orders and Search, formats GraphSheet and Accepted, form_check Form, specs Headers.
 use mathlib.Core.Path.{_≡_, refl, sym, ap, _∙_}
-use mathlib.Core.Bool.{Bool, true, false, _||_, not}
-use mathlib.Core.List.{List, [], _∷_, _++_}
-use Prim.Native.Nat.{ℕ, _+_, _*_, _≤_}
-use native.Mathlib.Omega.{arith}
-use borrow.Author.Tests.{ltb-false, eq-eqb, ne-eqb}
+use mathlib.Core.Bool.{Bool, true, false, not}
+use mathlib.Core.List.{List, _++_}
+use Prim.Native.Nat.{ℕ, _≤_}
+use borrow.Author.Tests.{ltb-false}
 use lib.ListN.{length}
 use Rattle.base.specs.Lists.{any, all, from}
-use Rattle.base.specs.Checks.{Order, refused, outside}
+use Rattle.base.specs.Checks.{refused}
 use Rattle.base.proofs.Orders.{pick, tested, none-left, unrefused, append-stops, append-passes}
 use Rattle.base.proofs.Search.{not-all}
-use Rattle.formats.specs.Limits.{leastWords, leastBlocks, mostBlocks, leastEdges, mostEdges}
+use Rattle.formats.specs.Limits.{leastWords}
 use Rattle.formats.specs.Words.{field}
-use Rattle.formats.specs.GraphSheet.{Header, headerOf, header, costWord, targetWord, short, badCounts, badLength, badBudget}
+use Rattle.formats.specs.GraphSheet.{Header, header, costWord, short}
 use Rattle.formats.specs.GraphSheet.{costFits, badCosts, badTargets, badChains, exitChain, Formed}
-use Rattle.formats.specs.GraphSheet.{lengthOrder, countsOrder, sizeOrder, budgetOrder, costOrder, edgeOrder, sheetOrder, sheetRefusal}
+use Rattle.formats.specs.GraphSheet.{costOrder, edgeOrder, sheetOrder, sheetRefusal}
 use Rattle.formats.proofs.Accepted.{formed, cost-word}
+use Rattle.form_check.proofs.Form.{formOrder}
 use Rattle.graph_check.specs.Headers.{edgeStage}
-
--- 1 to 4
-abbrev pub formOrder : Order (List ℕ)
-formOrder = lengthOrder ++ countsOrder ++ sizeOrder ++ budgetOrder
 
 -- 5, on a sheet
 abbrev costs : List ℕ → Bool
@@ -36,26 +32,6 @@ module _ (w : List ℕ) where
   pub form-passes : refused formOrder w ≡ 0 → sheetRefusal w ≡ refused (costOrder ++ edgeOrder) w
   unfolding sheetRefusal sheetOrder all
   form-passes e = append-passes formOrder (costOrder ++ edgeOrder) w refl e
-
-  -- the form's answer, by what its conditions say; behind one that holds they may say anything
-  pub form-answer : (a b c d : Bool) → short w ≡ a → badCounts (header w) w ≡ b → badLength (header w) w ≡ c → badBudget w ≡ d
-      → refused formOrder w ≡ pick a 1 (pick b 2 (pick c 3 (pick d 4 0)))
-  form-answer a b c d p q r s =
-      tested 1 short _ w p (tested 2 _ _ w q (tested 3 _ _ w r (tested 4 _ _ w s (none-left w))))
-
-  -- what the conditions say of the header that was read
-  module _ {at n m : ℕ} (q : headerOf at n m ≡ header w) where
-    pub counts-are : {r : Bool} → r ≡ (outside leastBlocks mostBlocks n || outside leastEdges mostEdges m) → badCounts (header w) w ≡ r
-    unfolding badCounts
-    counts-are e = ap (λ (h : Header). badCounts h w) (sym q) ∙ sym e
-
-    pub length-fits : length w ≡ at + 2 * n + 2 * m → badLength (header w) w ≡ false
-    unfolding badLength
-    length-fits e = ap (λ (h : Header). badLength h w) (sym q) ∙ ap not (eq-eqb (length w) _ e)
-
-    pub length-differs : (length w ≡ at + 2 * n + 2 * m → ⊥) → badLength (header w) w ≡ true
-    unfolding badLength
-    length-differs e = ap (λ (h : Header). badLength h w) (sym q) ∙ ap not (ne-eqb (length w) _ e)
 
   -- the form passed
   pub form-long : refused formOrder w ≡ 0 → leastWords ≤ length w
@@ -96,11 +72,3 @@ module _ (h : Header) (w : List ℕ) where
   pub misfit-is : (v : ℕ) {c : ℕ} {r b : Bool} → (1 ≤ v) × (v ≤ h .blocks) → c ≡ field w (h .records) 2 v 0 → r ≡ costFits v c → not r ≡ b
       → misfit v ≡ b
   misfit-is v l p q e = let k = cost-word h w v (l .0) (l .1) in cc
-
-  -- 6: an edge whose target is no block that may be entered
-  abbrev pub stray : ℕ → Bool
-  stray e = outside 2 (h .blocks) (targetWord h w e)
-
-  pub targets-are : badTargets h w ≡ any stray (from 1 (h .edges))
-  unfolding badTargets
-  targets-are = refl

@@ -1,6 +1,2 @@
--- conditions 1 to 6: what the loops look for, and the stages of the order
+-- the stages of the order, and what the loop for condition 5 looks for
 pub mod Conditions
--- condition 7: the loop over the blocks, chain by chain
-pub mod Following
--- the number of successors: refused, answered
-pub mod Counting

@@ -1,6 +1,4 @@
--- lines, part by part: figures-is, refused-is, total-is, none-is, most-is, unused-is; whole-line
+-- lines, part by part: total-is, none-is, most-is; whole-line
 pub mod Lines
--- the lines have room: three-room, unused-fits
+-- the end of a line has room: three-room
 pub mod Room
--- the marked blocks' lines: marked-begin, marked-on, marked-end
-pub mod Marked

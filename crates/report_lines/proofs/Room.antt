@@ -1,16 +1,14 @@
--- How long a report's lines are at most: three numbers and the newline 25 bytes, an unused block's line 23.
--- Rests on formats Report, digits Spaced, NumberLine and Room, specs Lines, proofs Lines.
-use mathlib.Core.Path.{_≡_, ap}
+-- How long the end of a line is at most: three numbers and the newline 25 bytes.
+-- Rests on digits Spaced, NumberLine and Room, specs Lines.
+use mathlib.Core.Path.{_≡_}
 use mathlib.Core.List.{_++_}
 use Prim.Native.Nat.{ℕ, _+_, _≤_, _<_}
 use native.Mathlib.Omega.{arith}
 use lib.ListN.{length, length-append}
-use Rattle.formats.specs.Report.{unusedText, unusedLine}
 use Rattle.digits.specs.Spaced.{spaced}
 use Rattle.digits.proofs.NumberLine.{newlineText}
 use Rattle.digits.proofs.Room.{spaced-7}
 use Rattle.report_lines.specs.Lines.{numberLimit, threeText}
-use Rattle.report_lines.proofs.Lines.{unused-is}
 
 pub three-length : (x y z : ℕ) → length (threeText x y z) ≡ length (spaced x) + (length (spaced y) + (length (spaced z) + 1))
 unfolding threeText
@@ -26,15 +24,3 @@ three-length x y z =
 pub three-room : {n : ℕ} (p x y z : ℕ) → x < numberLimit → y < numberLimit → z < numberLimit → p + 25 ≤ n
     → p + length (threeText x y z) ≤ n
 three-room p x y z i j k l = omega (arith, three-length x y z, spaced-7 x i, spaced-7 y j, spaced-7 z k)
-
-pub unused-length : (p v : ℕ) → length (unusedLine p v) ≡ length (unusedText ++ spaced p) + (length (spaced v) + 1)
-unused-length p v =
-    omega (
-      arith,
-      ap length (unused-is p v),
-      length-append (unusedText ++ spaced p) (spaced v ++ newlineText),
-      length-append (spaced v) newlineText,
-    )
-
-pub unused-fits : (p v : ℕ) → p < numberLimit → v < numberLimit → length (unusedLine p v) ≤ 23
-unused-fits p v l m = omega (arith, unused-length p v, length-append unusedText (spaced p), spaced-7 p l, spaced-7 v m)

@@ -1,5 +1,5 @@
 -- What the functions below `feed` and `finish` promise: one line more, the next bytes, the end.
--- Rests on formats Limits and Report, calls Report, file_words Longer, digits Wrote, report_lines Lines, tally, catalogue Standing, Came.
+-- Rests on formats Limits and Report, calls Report, file_words Longer, digits Wrote, report_lines Lines, unused_lines Room, tally, catalogue Standing, Came.
 use mathlib.Core.Path.{_≡_}
 use mathlib.Core.Bool.{Bool, true, false}
 use mathlib.Core.List.{List, [], _∷_, _++_, map}
@@ -14,7 +14,8 @@ use Rattle.formats.specs.Report.{Figures, sheetLine, eachSheet}
 use Rattle.calls.specs.Report.{figures, report}
 use Rattle.file_words.specs.Longer.{longerFile}
 use Rattle.digits.specs.Wrote.{Wrote}
-use Rattle.report_lines.specs.Lines.{lineRoom, unusedRoom}
+use Rattle.report_lines.specs.Lines.{lineRoom}
+use Rattle.unused_lines.specs.Room.{unusedRoom}
 use Rattle.tally.specs.declared.Tally.{Tally}
 use Rattle.catalogue.specs.Standing.{Ready, Standing, Front}
 use Rattle.stream.specs.declared.Progress.{Progress}

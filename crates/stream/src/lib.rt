@@ -11,7 +11,8 @@ ghost use Rattle.formats.specs.Limits.{mostBlocks, mostSheets};
 ghost use Rattle.formats.specs.Report.{Figures};
 ghost use Rattle.file_words.specs.Longer.{longerFile};
 ghost use Rattle.digits.specs.Wrote.{Wrote};
-ghost use Rattle.report_lines.specs.Lines.{lineRoom, unusedRoom};
+ghost use Rattle.report_lines.specs.Lines.{lineRoom};
+ghost use Rattle.unused_lines.specs.Room.{unusedRoom};
 ghost use Rattle.catalogue.specs.Standing.{Ready, Standing};
 ghost use Rattle.catalogue.specs.Parts.{closingPart};
 ghost use Rattle.stream.specs.Came.{Came};
@@ -22,7 +23,7 @@ use catalogue::next_sheet;
 use file_words::joined;
 use kept::keep_byte;
 use report_lines::LINE_SIZE;
-use report_lines::UNUSED_SIZE;
+use unused_lines::UNUSED_SIZE;
 use tally::Tally;
 
 // The room of the lines of all sheets, and of what is written at the end.

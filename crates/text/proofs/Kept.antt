@@ -1,21 +1,20 @@
 -- What rule 11 gives, number by number, behind any header: every word of a listing is small, and the chains hold each edge once.
--- Rests on base Lists, formats Rule11, RuleKept, RuleWords and RuleRead, specs Texts.
+-- Rests on base Lists, formats Rule11, RuleKept, RuleWords and RuleRead, copy_line Line.
 use mathlib.Core.Path.{_≡_, refl, ap, _∙_}
 use mathlib.Core.List.{List, List·Memᴰ}
-use Prim.Native.Nat.{ℕ, suc, _+_, _*_, _≤_}
+use Prim.Native.Nat.{ℕ, _≤_}
 use native.Mathlib.Omega.{arith}
 use native.Mathlib.Decide.{ℕ-discrete}
 use lib.ListN.{length}
 use Rattle.base.specs.Lists.{each, from}
 use Rattle.base.proofs.Lists.{from-i, from-length}
 use Rattle.formats.specs.Limits.{mostBlocks, mostCopies}
-use Rattle.formats.specs.Words.{field, Inside, nextFrom}
 use Rattle.formats.specs.BoundedSheet.{Heading, blockAt, lowAt, copyAt, chainAt, targetsAt}
 use Rattle.formats.specs.Rule11.{Ruled}
 use Rattle.formats.proofs.RuleKept.{RowFits}
 use Rattle.formats.proofs.RuleWords.{rowAt, rows}
 use Rattle.formats.proofs.RuleRead.{met-is, chain-inside, rows-length, row-fits}
-use Rattle.text.specs.Texts.{Readable}
+use Rattle.copy_line.specs.Line.{Readable}
 
 module _ (h : Heading) (s : List ℕ) (R : Ruled h s) where
   pub all-edges : length (each (chainAt h s) (from 1 (h .copies))) ≡ h .edges
@@ -44,8 +43,3 @@ module _ (h : Heading) (s : List ℕ) (R : Ruled h s) where
         go : Dec (t ≡ 0) → t ≤ mostCopies
         go (yes z) = omega arith
         go (no n) = omega (arith, fits .targets t m n .1, rows-length h s R, R .form .copies .1)
-
--- the chain from a first edge that was read
-pub chain-read : {s : List ℕ} {at c f i x : ℕ} → Readable s at c f → 1 ≤ i → i ≤ c → x ≡ field s at 3 i 2
-    → Inside (nextFrom s (at + 3 * c)) f (suc f) x
-chain-read {i = i} R p q e = rw e (R .inside i p q)

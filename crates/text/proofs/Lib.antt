@@ -1,10 +1,8 @@
--- lines, part by part: line-read, listing-is, refusal-is
+-- the listing by its lines, and a refusal: listing-is, refusal-is
 pub mod Lines
 -- what rule 11 gives, number by number: block-most, low-most, target-most, readable
 pub mod Kept
 -- the texts have room: listing-fits, refusal-fits
 pub mod Room
--- a chain's targets: going-begins, going-on, chain-ends
-pub mod Targets
 -- a line for each number: lines-begin, lines-on, lines-end
 pub mod Copies

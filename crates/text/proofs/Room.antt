@@ -1,5 +1,5 @@
 -- How long the texts are at most: a heading 34 bytes, a copy's line 13 and 5 for each target, a refusal 14.
--- Rests on base Lists, formats Listing and RuleRead, digits Spaced, Decimals and Room, specs Texts, Lines, Kept.
+-- Rests on base Lists, formats Listing and RuleRead, digits Spaced, Decimals and Room, heading_line Heading, copy_line Lines, specs Texts, Lines, Kept.
 use mathlib.Core.Path.{_≡_, refl, ap}
 use mathlib.Core.List.{List, [], _∷_, List·Memᴰ, List·Memᴰ·head, List·Memᴰ·tail}
 use Prim.Native.Nat.{ℕ, _+_, _*_, _≤_, _<_}
@@ -13,10 +13,14 @@ use Rattle.formats.specs.Rule11.{boundedRefusal, Ruled}
 use Rattle.formats.specs.Listing.{refusalOf}
 use Rattle.formats.proofs.RuleRead.{clauses, read-ruled}
 use Rattle.digits.specs.Spaced.{spaced}
-use Rattle.text.specs.Texts.{listingRoom, refusalRoom, copiesText, edgesText, budgetText, headingText, lineAt, copyLines}
+use Rattle.heading_line.specs.Heading.{copiesText, edgesText, budgetText, headingText}
+use Rattle.heading_line.proofs.Heading.{heading-length}
+use Rattle.copy_line.specs.Line.{lineAt}
+use Rattle.copy_line.proofs.Lines.{copy-length}
+use Rattle.text.specs.Texts.{listingRoom, refusalRoom, copyLines}
 use Rattle.digits.proofs.Decimals.{digits-4}
 use Rattle.digits.proofs.Room.{spaced-3, spaced-4, spaced-5, each-room}
-use Rattle.text.proofs.Lines.{refusedText, heading-length, copy-length, refusal-length}
+use Rattle.text.proofs.Lines.{refusedText, refusal-length}
 use Rattle.text.proofs.Kept.{all-edges, block-most, low-most, target-most}
 
 targets-room : (ts : List ℕ) → ((t : ℕ) → List·Memᴰ t ts → t ≤ mostCopies) → length (each spaced ts) ≤ 5 * length ts

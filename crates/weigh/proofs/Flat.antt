@@ -1,17 +1,13 @@
--- A flat row: the edges of its graph join its blocks.
--- Rests on graph_row Successors, specs Joined and States.
+-- A flat row with room beside it is ready to be weighed.
+-- Rests on calls Area, graph_row GraphRow, successor_masks Flat, block_cost States.
 use mathlib.Core.List.{List}
 use Prim.Native.Nat.{ℕ, _≤_}
 use lib.ListN.{length}
 use Rattle.formats.specs.Limits.{mostBudget}
 use Rattle.calls.specs.Area.{areaSize}
 use Rattle.graph_row.specs.GraphRow.{blocksIn, graphIn, Flat}
-use Rattle.graph_row.proofs.Successors.{source-block, successor-fits}
-use Rattle.weigh.specs.Joined.{Joined}
-use Rattle.weigh.specs.States.{Ready}
-
-pub joined : {row : List ℕ} → Flat row → Joined (graphIn row) (blocksIn row)
-joined {row} F = record { blocks = F .blocks; laws = F .laws; source = source-block row; target = successor-fits F }
+use Rattle.block_cost.specs.States.{Ready}
+use Rattle.successor_masks.proofs.Flat.{joined}
 
 pub ready : {row : List ℕ} {b : ℕ} {area : List ℕ} → Flat row → (b ≤ mostBudget) × (areaSize (blocksIn row) b ≤ length area)
     → Ready (graphIn row) (blocksIn row) b area

@@ -1,5 +1,5 @@
 -- All costs, by rising cost and block by block: then every cell of a completion is set.
--- Rests on base Truth, theory Completions, OneCost, specs Joined, Masked and States.
+-- Rests on base Truth, theory Completions, successor_masks Joined, block_cost OneCost, Masked and States.
 use mathlib.Core.Path.{_≡_, refl, sym, ap, ap₂, _∙_}
 use mathlib.Core.Logic.{_≢_}
 use mathlib.Core.Bool.{true}
@@ -12,10 +12,10 @@ use Rattle.base.proofs.Truth.{same-test}
 use Rattle.theory.specs.Completions.{Graph, completes}
 use Rattle.theory.proofs.Completions.{completes-sound, exit-cost}
 use Rattle.calls.specs.Area.{stands, Table}
-use Rattle.weigh.specs.Joined.{Joined}
-use Rattle.weigh.specs.States.{Fair, Wider, Settled}
-use Rattle.weigh.specs.Masked.{Kept}
-use Rattle.weigh.proofs.OneCost.{same-wide, wider-then}
+use Rattle.successor_masks.specs.Joined.{Joined}
+use Rattle.block_cost.specs.States.{Fair, Wider, Settled}
+use Rattle.block_cost.specs.Masked.{Kept}
+use Rattle.block_cost.proofs.OneCost.{same-wide, wider-then}
 
 -- no cost is below 0
 pub settled-none : {g : Graph} {n b : ℕ} {area : List ℕ} → Settled g n b area 0 2

@@ -1,5 +1,5 @@
 -- The answers of weighing, half by half, and the work area after them.
--- Rests on base Orders, formats Accepted, calls Weigh and Area, weigh Flat.
+-- Rests on base Orders, formats Accepted, calls Weigh and Area, block_cost States, weigh Flat.
 use mathlib.Core.Path.{_≡_, refl, sym, ap, ap₂, subst, _∙_}
 use mathlib.Core.Bool.{Bool, true, false}
 use mathlib.Core.List.{List, []}
@@ -28,7 +28,7 @@ use Rattle.tables.specs.Tables.{lowIn}
 use Rattle.tables.proofs.Tables.{low-in}
 use Rattle.graph_row.specs.GraphRow.{blocksIn, graphIn}
 use Rattle.flatten.specs.Decoded.{Decoded}
-use Rattle.weigh.specs.States.{Ready}
+use Rattle.block_cost.specs.States.{Ready}
 use Rattle.weigh.proofs.Flat.{ready}
 use Rattle.calls.proofs.Weigh.{front-numbered, front-early, late-area, spared}
 

@@ -1,5 +1,5 @@
 -- The records of the copies, put copy by copy: what is put, then the records of the copies left, are the records of all.
--- Rests on formats Reading, tables Rows and Rest, specs Marked, Put.
+-- Rests on formats Reading, tables Rows and Rest, put_words Put, chain_records Marked.
 use mathlib.Core.Path.{_≡_, refl, sym, ap, ap₂, _∙_}
 use mathlib.Core.List.{List, [], _∷_, _++_, map}
 use Prim.Native.Nat.{ℕ, suc, _+_, _*_, _≤_, _<_}
@@ -18,9 +18,9 @@ use Rattle.tables.specs.Scan.{IsCell, NextMarked}
 use Rattle.tables.proofs.Rows.{row-length, edges-are}
 use Rattle.tables.proofs.Rest.{rest, Scan, scan-of, AtCopy, at-first, at-here, at-next, at-end}
 use Rattle.graph_row.specs.GraphRow.{blocksIn, graphIn, Flat}
-use Rattle.write.specs.Put.{putWords}
-use Rattle.write.specs.Marked.{Marked}
-use Rattle.write.proofs.Put.{put-none, put-length, put-more}
+use Rattle.put_words.specs.Put.{putWords}
+use Rattle.chain_records.specs.Marked.{Marked}
+use Rattle.put_words.proofs.Put.{put-none, put-length, put-more}
 
 -- the cells of the blocks of a graph row
 pub scan-in : {row : List ℕ} {b : ℕ} {marks : List ℕ} {n size : ℕ} → Flat row → Marked (graphIn row) (blocksIn row) b marks

@@ -8,7 +8,8 @@ use Prim.Native.Nat.{ℕ}
 use lib.ListN.{length}
 use Rattle.theory.specs.Tasks.{Task}
 use Rattle.formats.proofs.Accepted.{accepted}
-use Rattle.build_rows.specs.Within.{Passes, answerAt, outputAt}
+use Rattle.output.specs.Answer.{answerAt, outputAt}
+use Rattle.build_rows.specs.Within.{Passes}
 use Rattle.build_rows.proofs.Front.{fits-not, fits}
 use Rattle.build_rows.proofs.Ready.{front-passes, same-task, small-budget, something-fits, row-table, row-cells}
 use Rattle.build_rows.proofs.build_in_rows.Statement.{statement}

@@ -1,13 +1,13 @@
 -- 10 by the edges, else what `write_numbered` answers.
--- Rests on Answers.
+-- Rests on output Answers.
 -- what the call is given, seen from where the copies are found, and that from where their blocks are counted
 use borrow.Author.Needs.{needs}
 use mathlib.Core.Path.{refl, ap, _∙_}
 use native.Mathlib.Omega.{arith}
 use lib.ListN.{length}
 use Rattle.graph_row.specs.GraphRow.{taskIn}
-use Rattle.build_rows.specs.Within.{outputAt}
-use Rattle.build_rows.proofs.Answers.{many-edges}
+use Rattle.output.specs.Answer.{outputAt}
+use Rattle.output.proofs.Answers.{many-edges}
 use Rattle.build_rows.proofs.build_weighed.Statement.{statement}
 use Rattle.build_rows.proofs.build_weighed.Tie as tie
 

@@ -1,11 +1,11 @@
 -- What the build refuses is refused, and what it leaves in the row is reported.
--- Rests on build `build`, front Answer, Said.
+-- Rests on build `build`, front Answer, Answered.
 use mathlib.Core.Path.{sym, _∙_}
 use native.Mathlib.Omega.{arith}
 use borrow.Author.Needs.{needs}
 use Rattle.calls.specs.Report.{figures}
 use Rattle.front.proofs.Answer.{list-answer, front-is, front-fits}
-use Rattle.figures.proofs.Said.{says-accepted, says-refused}
+use Rattle.figures.proofs.Answered.{says-accepted, says-refused}
 use Rattle.figures.proofs.report_in_rows.Statement.{statement}
 use Rattle.figures.proofs.report_in_rows.Tie as tie
 

@@ -1,9 +1,9 @@
 -- A bounded move of the walk that the words stand for.
--- Rests on bounded_moves `bounded_move`, Words.
+-- Rests on bounded_moves `bounded_move`, walk_words `walk_of` and `put_walk`, Steps.
 use mathlib.Core.Path.{sym, _∙_}
 use borrow.Author.Needs.{needs}
 use Rattle.gilstavo.specs.Steps.{boundedStep}
-use Rattle.gilstavo.proofs.Words.{step-answer, step-refused, step-accepted}
+use Rattle.gilstavo.proofs.Steps.{step-answer, step-refused, step-accepted}
 use Rattle.gilstavo.proofs.gilstavo_bounded_move.Statement.{statement}
 use Rattle.gilstavo.proofs.gilstavo_bounded_move.Tie as tie
 

@@ -1,5 +1,5 @@
 -- The count of the call behind it, unless that refuses.
--- Rests on base Orders, graph_check `count_successors`.
+-- Rests on base Orders, successors `count_successors`.
 use mathlib.Core.Path.{sym, _∙_}
 use borrow.Author.Needs.{needs}
 use Rattle.base.proofs.Orders.{refused-lent, accepted-lent}

@@ -1,10 +1,10 @@
 -- A guarded move of the walk that the words stand for.
--- Rests on guarded_moves `guarded_move`, Words.
+-- Rests on guarded_moves `guarded_move`, walk_words `walk_of` and `put_walk`, Steps.
 use mathlib.Core.Path.{sym, _∙_}
 use borrow.Author.Needs.{needs}
 use Rattle.calls.specs.Moves.{guardedMove}
 use Rattle.gilstavo.specs.Steps.{guardedStep}
-use Rattle.gilstavo.proofs.Words.{step-answer, step-refused, step-accepted}
+use Rattle.gilstavo.proofs.Steps.{step-answer, step-refused, step-accepted}
 use Rattle.gilstavo.proofs.gilstavo_guarded_move.Statement.{statement}
 use Rattle.gilstavo.proofs.gilstavo_guarded_move.Tie as tie
 

@@ -1,8 +1,8 @@
 -- The starting walk, written.
--- Rests on walk `Walk::start`, `put_walk`.
+-- Rests on walk `Walk::start`, walk_words `put_walk`.
 use mathlib.Core.Path.{_∙_, ap}
 use borrow.Author.Needs.{needs}
-use Rattle.gilstavo.specs.WalkWords.{walkWords}
+use Rattle.walk_words.specs.WalkWords.{walkWords}
 use Rattle.gilstavo.proofs.gilstavo_start.Statement.{statement}
 use Rattle.gilstavo.proofs.gilstavo_start.Tie as tie
 

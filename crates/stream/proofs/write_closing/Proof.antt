@@ -11,7 +11,7 @@ use Rattle.base.specs.Lists.{each, from}
 use Rattle.base.proofs.Lists.{part-length}
 use Rattle.formats.specs.Report.{Figures}
 use Rattle.digits.specs.Wrote.{Wrote}
-use Rattle.report_lines.specs.Lines.{unusedRoom}
+use Rattle.unused_lines.specs.Room.{unusedRoom}
 use Rattle.catalogue.specs.Standing.{Standing}
 use Rattle.catalogue.specs.Parts.{closingPart}
 use Rattle.stream.proofs.Rows.{wrote-part}

@@ -3,7 +3,7 @@
 use Prim.Native.Nat.{_+_, _-_}
 use native.Mathlib.Omega.{arith}
 use borrow.Author.Needs.{needs}
-use Rattle.text.specs.Texts.{lineAt}
+use Rattle.copy_line.specs.Line.{lineAt}
 use Rattle.text.proofs.Copies.{LinesDue, lines-begin, line-room, lines-on, lines-end}
 use Rattle.text.proofs.write_copies.Statement.{statement}
 use Rattle.text.proofs.write_copies.Tie as tie

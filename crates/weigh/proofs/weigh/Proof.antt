@@ -1,9 +1,9 @@
 -- The successors are listed, the cells cleared, and all costs settled: the area is filled.
--- Rests on calls Area, Successors, Rising.
+-- Rests on calls Area, successor_masks Flat and Successors, Rising.
 use borrow.Author.Needs.{needs}
 use Rattle.calls.proofs.Area.{filling-filled}
-use Rattle.weigh.proofs.Flat.{joined}
-use Rattle.weigh.proofs.Successors.{nexts-none}
+use Rattle.successor_masks.proofs.Flat.{joined}
+use Rattle.successor_masks.proofs.Successors.{nexts-none}
 use Rattle.weigh.proofs.Rising.{all-right}
 use Rattle.weigh.proofs.weigh.Statement.{statement}
 use Rattle.weigh.proofs.weigh.Tie as tie

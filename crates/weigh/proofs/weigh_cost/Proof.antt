@@ -1,12 +1,12 @@
 -- The blocks from 3 on, then the start; the measure is the blocks left.
--- Rests on Rising.
+-- Rests on successor_masks Flat, block_cost OneCost, Rising.
 use borrow.Author.Needs.{needs}
 use mathlib.Core.Path.{_∙_}
 use Prim.Native.Nat.{_+_, _-_, _≤_}
 use native.Mathlib.Omega.{arith}
 use Rattle.graph_row.specs.GraphRow.{blocksIn, graphIn}
-use Rattle.weigh.proofs.Flat.{joined}
-use Rattle.weigh.proofs.OneCost.{wider-then}
+use Rattle.successor_masks.proofs.Flat.{joined}
+use Rattle.block_cost.proofs.OneCost.{wider-then}
 use Rattle.weigh.proofs.Rising.{Going, going-start, going-on, settled-exit, settled-on, settled-next, ahead-block, ahead-start}
 use Rattle.weigh.proofs.weigh_cost.Statement.{statement}
 use Rattle.weigh.proofs.weigh_cost.Tie as tie

@@ -1,11 +1,11 @@
 -- One cost after the other; the measure is the costs left.
--- Rests on Rising.
+-- Rests on block_cost States, Rising.
 use borrow.Author.Needs.{needs}
 use mathlib.Core.Path.{_≡_, subst}
 use Prim.Native.Nat.{ℕ, _+_, _-_, _≤_}
 use native.Mathlib.Omega.{arith}
 use Rattle.graph_row.specs.GraphRow.{blocksIn, graphIn}
-use Rattle.weigh.specs.States.{Settled}
+use Rattle.block_cost.specs.States.{Settled}
 use Rattle.weigh.proofs.Rising.{Going, going-start, going-on, settled-none}
 use Rattle.weigh.proofs.weigh_costs.Statement.{statement}
 use Rattle.weigh.proofs.weigh_costs.Tie as tie

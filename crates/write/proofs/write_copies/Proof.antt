@@ -8,7 +8,7 @@ use Rattle.graph_row.specs.GraphRow.{blocksIn, graphIn}
 use Rattle.graph_row.proofs.Laws.{next-length}
 use Rattle.tables.proofs.Rest.{scan-room, cell-fits}
 use Rattle.tables.proofs.Rows.{row-length}
-use Rattle.write.specs.Put.{putWords}
+use Rattle.put_words.specs.Put.{putWords}
 use Rattle.write.proofs.Records.{Written, scan-in, written-start, written-fits, written-on, written-end}
 use Rattle.write.proofs.Records.{copyRecord, copies-are, copies-fit, copy-put}
 use Rattle.write.proofs.write_copies.Statement.{statement}

@@ -1,13 +1,13 @@
 -- `write::write_edges` meets its contract. With the records of the copies left the row is that of all; the measure is the cells left.
--- Rests on tables Rest, Chain, Records.
+-- Rests on tables Rest, chain_records Chain, Records.
 use mathlib.Core.Path.{sym, ap, _∙_}
 use Prim.Native.Nat.{_-_}
 use native.Mathlib.Omega.{arith}
 use borrow.Author.Needs.{needs}
 use Rattle.graph_row.specs.GraphRow.{blocksIn, graphIn}
 use Rattle.tables.proofs.Rest.{scan-room, cell-fits, at-copy}
-use Rattle.write.specs.Put.{putWords}
-use Rattle.write.proofs.Chain.{place, low-covers}
+use Rattle.put_words.specs.Put.{putWords}
+use Rattle.chain_records.proofs.Chain.{place, low-covers}
 use Rattle.write.proofs.Records.{Written, scan-in, written-start, written-fits, written-on, written-end}
 use Rattle.write.proofs.Records.{edgeRecord, chains-are, edges-fit, edge-length}
 use Rattle.write.proofs.write_edges.Statement.{statement}

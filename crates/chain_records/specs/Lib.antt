@@ -1,0 +1,4 @@
+-- What the contracts below the public calls cite.
+-- Rests on base, theory, formats, tables.
+-- the marked copies: Marked
+pub mod Marked

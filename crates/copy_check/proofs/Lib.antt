@@ -1,0 +1,2 @@
+-- a copy by what its tests say: copy-is
+pub mod BadCopy

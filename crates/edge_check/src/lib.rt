@@ -1,0 +1,44 @@
+// Conditions 6 and 7 of a graph sheet that has its form: the targets of its edges, and its chains.
+// Rests on words, chains; the promises are equations with formats GraphSheet.
+ghost use mathlib.Core.Path.{_≡_};
+ghost use Rattle.formats.specs.GraphSheet.{headerOf, badTargets, badChains, Formed};
+use chains::mark_chain;
+use chains::misses;
+use words::MOST_EDGES;
+use words::field;
+use words::is_outside;
+
+// Condition 6: a target that is 0, 1 or above N.
+pub fn bad_targets(s: &[u16], at: usize, n: usize, m: usize) -> bool
+    requires { ⌜ Formed (headerOf at n m) (now s) ⌝ }
+    ensures { λ r. ⌜ r ≡ badTargets (headerOf at n m) (now (s .entry)) ⌝ }
+{
+    let base = at + 2 * n;
+    let mut e = 1;
+    while e <= m {
+        let t = field(s, base, 2, e, 0);
+        if is_outside(2, n, t) {
+            return true;
+        }
+        e += 1;
+    }
+    false
+}
+
+// Condition 7: following all chains meets an edge above E, or an edge twice, or misses one.
+pub fn bad_chains(s: &[u16], at: usize, n: usize, m: usize) -> bool
+    requires { ⌜ Formed (headerOf at n m) (now s) ⌝ }
+    ensures { λ r. ⌜ r ≡ badChains (headerOf at n m) (now (s .entry)) ⌝ }
+{
+    let base = at + 2 * n;
+    let mut seen = [0u8; MOST_EDGES + 1];
+    let mut v = 1;
+    while v <= n {
+        let first = field(s, at, 2, v, 1);
+        if !mark_chain(s, &mut seen, base, m, first) {
+            return true;
+        }
+        v += 1;
+    }
+    misses(&seen, m)
+}

@@ -1,0 +1,4 @@
+-- What the contracts cite.
+-- Rests on nothing.
+-- a row with words put into it
+pub mod Put

@@ -1,0 +1,12 @@
+-- The clauses of rule 11 on the copies and the order of the edges.
+-- Rests on formats BoundedSheet and Rule11.
+use mathlib.Core.Bool.{Bool, _||_}
+use mathlib.Core.List.{List}
+use Prim.Native.Nat.{ℕ}
+use Rattle.formats.specs.BoundedSheet.{Heading}
+use Rattle.formats.specs.Rule11.{badBlocks, badLows, badCopyOrder}
+use Rattle.formats.specs.Rule11.{notOneOf, badExit, badEdgeOrder}
+
+unfoldable pub badRecords : Heading → List ℕ → Bool
+badRecords h s =
+    badBlocks h s || (badLows h s || (badCopyOrder h s || (badExit h s || (notOneOf h s 1 || (notOneOf h s 2 || badEdgeOrder h s)))))

@@ -1,0 +1,84 @@
+// The records of a bounded sheet, behind any header: one pass over the copies, each with its chain of edges.
+// Rests on words, copy_check; the promise is an equation with specs Records, over formats Rule11.
+ghost use mathlib.Core.Path.{_≡_};
+ghost use Prim.Native.Nat.{suc, _+_, _*_, _≤_};
+ghost use lib.ListN.{length};
+ghost use Rattle.formats.specs.Limits.{mostCopies, mostBoundedEdges};
+ghost use Rattle.formats.specs.Words.{nextFrom};
+ghost use Rattle.formats.specs.BoundedSheet.{headingOf};
+ghost use Rattle.formats.specs.Rule11.{Formed};
+ghost use Rattle.record_check.specs.Records.{badRecords};
+ghost use Rattle.record_check.specs.Chains.{Consecutive};
+use copy_check::is_bad_copy;
+use words::field;
+
+// Follows the chain from `first` on, whose edges are to be `due`, `due` + 1, ..: the number behind its last edge, 0 where it has others.
+fn chain_end(s: &[u16], base: usize, m: usize, first: usize, due: usize) -> usize
+    requires { ⌜ base + 2 * m ≤ length (now s) ⌝ }
+    requires { ⌜ (1 ≤ due) × (due ≤ suc m) × (m ≤ mostBoundedEdges) ⌝ }
+    ensures { λ r. ⌜ Consecutive (nextFrom (now (s .entry)) base) m first due r ⌝ }
+{
+    let mut x = first;
+    let mut e = due;
+    while x != 0 {
+        if m < e {
+            return 0;
+        }
+        if x != e {
+            return 0;
+        }
+        x = field(s, base, 2, e, 1);
+        e += 1;
+    }
+    e
+}
+
+// One more where the blocks are the same.
+fn tally(count: usize, v: usize, w: usize) -> usize
+    requires { ⌜ count ≤ mostCopies ⌝ }
+    ensures { λ r. ⌜ (v ≡ w → r ≡ suc count) × ((v ≡ w → ⊥) → r ≡ count) ⌝ }
+{
+    if v == w {
+        return count + 1;
+    }
+    count
+}
+
+// One pass over the copies: a bad copy, not one copy each of blocks 1 and 2, or chains that do not meet the edges 1 to F in this order.
+pub fn bad_copies(s: &[u16], at: usize, c: usize, f: usize, b: usize) -> bool
+    requires { ⌜ Formed (headingOf at c f b) (now s) ⌝ }
+    ensures { λ r. ⌜ r ≡ badRecords (headingOf at c f b) (now (s .entry)) ⌝ }
+{
+    let base = at + 3 * c;
+    let mut w = 0;
+    let mut l = 0;
+    let mut ones = 0;
+    let mut twos = 0;
+    let mut e = 1;
+    let mut i = 1;
+    while i <= c {
+        let v = field(s, at, 3, i, 0);
+        let a = field(s, at, 3, i, 1);
+        let first = field(s, at, 3, i, 2);
+        if is_bad_copy(b, w, l, v, a, first) {
+            return true;
+        }
+        let end = chain_end(s, base, f, first, e);
+        if end == 0 {
+            return true;
+        }
+        ones = tally(ones, v, 1);
+        twos = tally(twos, v, 2);
+        e = end;
+        w = v;
+        l = a;
+        i += 1;
+    }
+    if ones != 1 {
+        return true;
+    }
+    if twos != 1 {
+        return true;
+    }
+    e != f + 1
+}

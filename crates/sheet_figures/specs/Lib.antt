@@ -1,0 +1,2 @@
+-- what a report says of a sheet, in the rows that are lent: Says, Small
+pub mod Says

@@ -1,0 +1,26 @@
+-- What a report says of a sheet, in what the code answers and leaves: its figures, its line and the marks of its unused blocks.
+-- Rests on formats Limits and Report, digits Wrote, unused Marks.
+use mathlib.Core.Path.{_≡_}
+use mathlib.Core.List.{List}
+use Prim.Native.Nat.{ℕ, _≤_}
+use lib.ListN.{length}
+use Rattle.formats.specs.Limits.{mostBlocks, mostCopies, mostBoundedEdges}
+use Rattle.formats.specs.Report.{Figures, sheetLine}
+use Rattle.digits.specs.Wrote.{Wrote}
+use Rattle.unused.specs.Marks.{markedBlocks}
+use Rattle.sheet_figures.specs.declared.Reported.{Reported}
+
+-- of the sheet at place p, with the figures f; its line is written into the row old
+pub record Says (f : Figures) (p : ℕ) (r : Reported) (marks old text : List ℕ) : Type 0 where
+  pub blocks : r .blocks ≡ f .blocks
+  pub copies : r .copies ≡ f .copies
+  pub edges : r .edges ≡ f .edges
+  pub unused : markedBlocks marks ≡ f .unused
+  pub line : Wrote old 0 (sheetLine p f) text (r .size)
+  pub inside : r .size ≤ length text
+
+-- no more than the limits allow
+pub record Small (r : Reported) : Type 0 where
+  pub blocks : r .blocks ≤ mostBlocks
+  pub copies : r .copies ≤ mostCopies
+  pub edges : r .edges ≤ mostBoundedEdges
