@@ -1,10 +1,10 @@
 // The encode program: decimal words on standard input, the bytes of the sheet on standard output, or the line of a fault on standard error.
-// Rests on decimal, where the bytes are made.
-use decimal::TEXT_LIMIT;
-use decimal::encode;
+// Rests on reading, where the bytes are made.
 use libc::STDERR_FILENO;
 use libc::STDIN_FILENO;
 use libc::STDOUT_FILENO;
+use reading::TEXT_LIMIT;
+use reading::encode;
 
 fn print_fault(line: usize) {
     io::write_all(STDERR_FILENO, b"line ");

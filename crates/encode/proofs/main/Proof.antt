@@ -1,5 +1,5 @@
 -- `encode::main` is safe and ends.
--- Rests on decimal `encode` and Parts.
+-- Rests on reading `encode`, decimal Parts.
 use mathlib.Core.Path.{sym}
 use native.Mathlib.Omega.{arith}
 use borrow.Author.Needs.{needs}

@@ -2,9 +2,9 @@
 -- Rests on Texts.
 use native.Mathlib.Omega.{arith}
 use borrow.Author.Needs.{needs}
-use Rattle.decimal.proofs.Texts.{last-room, last-fault, last-words, last-inside}
-use Rattle.decimal.proofs.encode.Statement.{statement}
-use Rattle.decimal.proofs.encode.Tie as tie
+use Rattle.reading.proofs.Texts.{last-room, last-fault, last-words, last-inside}
+use Rattle.reading.proofs.encode.Statement.{statement}
+use Rattle.reading.proofs.encode.Tie as tie
 
 flush-requires : tie.Need-flush-requires
 flush-requires c κs =

@@ -11,12 +11,12 @@ use Rattle.base.specs.Lists.{each}
 use Rattle.formats.specs.Limits.{wordLimit}
 use Rattle.digits.specs.Wrote.{Wrote}
 use Rattle.digits.proofs.Due.{wrote-none}
-use Rattle.decimal.specs.declared.Reading.{Reading}
-use Rattle.decimal.specs.Reading.{Read, pending, flush, step, start, readOn, readWords}
-use Rattle.decimal.specs.Bytes.{bytesOf}
-use Rattle.decimal.specs.Held.{textLimit, modeOf, Holds, Turns}
-use Rattle.decimal.proofs.Modes.{mode-between}
-use Rattle.decimal.proofs.Turns.{holds-as, pending-two, pending-no, flushed}
+use Rattle.reading.specs.declared.Reading.{Reading}
+use Rattle.reading.specs.Reading.{Read, pending, flush, step, start, readOn, readWords}
+use Rattle.reading.specs.Bytes.{bytesOf}
+use Rattle.reading.specs.Held.{textLimit, modeOf, Holds, Turns}
+use Rattle.reading.proofs.Modes.{mode-between}
+use Rattle.reading.proofs.Turns.{holds-as, pending-two, pending-no, flushed}
 
 pub read-append : (r : Read) (xs ys : List ℕ) → readOn r (xs ++ ys) ≡ readOn (readOn r xs) ys
 unfolding readOn

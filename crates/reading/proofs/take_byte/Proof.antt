@@ -1,11 +1,11 @@
--- `decimal::take_byte` meets its contract: nothing changes after a fault.
+-- `reading::take_byte` meets its contract: nothing changes after a fault.
 -- Rests on Cases, Turns.
 use mathlib.Core.Path.{sym, _∙_}
 use borrow.Author.Needs.{needs}
-use Rattle.decimal.proofs.Cases.{step-on, step-fault}
-use Rattle.decimal.proofs.Turns.{holds-as, stays}
-use Rattle.decimal.proofs.take_byte.Statement.{statement}
-use Rattle.decimal.proofs.take_byte.Tie as tie
+use Rattle.reading.proofs.Cases.{step-on, step-fault}
+use Rattle.reading.proofs.Turns.{holds-as, stays}
+use Rattle.reading.proofs.take_byte.Statement.{statement}
+use Rattle.reading.proofs.take_byte.Tie as tie
 
 returns : tie.Need-returns
 returns c =

@@ -1,8 +1,8 @@
--- `decimal::is_blank` meets its contract.
+-- `reading::is_blank` meets its contract.
 -- Rests on Cases.
-use Rattle.decimal.proofs.Cases.{blank-space, blank-tab, blank-last}
-use Rattle.decimal.proofs.is_blank.Statement.{statement}
-use Rattle.decimal.proofs.is_blank.Tie as tie
+use Rattle.reading.proofs.Cases.{blank-space, blank-tab, blank-last}
+use Rattle.reading.proofs.is_blank.Statement.{statement}
+use Rattle.reading.proofs.is_blank.Tie as tie
 
 returns : tie.Need-returns
 returns c = blank-space (c .before .args .b) (c .if1 .taken)

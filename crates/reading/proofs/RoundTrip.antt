@@ -12,14 +12,14 @@ use borrow.Author.Tests.{ne-eqb}
 use Rattle.formats.specs.Limits.{wordLimit}
 use Rattle.formats.specs.Listing.{decimal, line}
 use Rattle.digits.proofs.Decimals.{decimal-one, decimal-more}
-use Rattle.decimal.specs.Reading.{Mode, between, within, Read, value, pending, inComment, flush, blank, lineByte, textByte}
-use Rattle.decimal.specs.Reading.{step, start, readOn, readWords}
+use Rattle.reading.specs.Reading.{Mode, between, within, Read, value, pending, inComment, flush, blank, lineByte, textByte}
+use Rattle.reading.specs.Reading.{step, start, readOn, readWords}
 use Rattle.decimal.specs.Writing.{layout, linesText, sheetText, total}
 use Rattle.decimal.proofs.All.{AllOf, all-take, all-drop}
-use Rattle.decimal.proofs.Cases.{blank-last, digit-more, line-word, text-line, step-on}
+use Rattle.reading.proofs.Cases.{blank-last, digit-more, line-word, text-line, step-on}
 use Rattle.decimal.proofs.Layouts.{Filled, layout-total, layout-filled}
 use Rattle.decimal.proofs.Rooms.{Words}
-use Rattle.decimal.proofs.Texts.{read-append}
+use Rattle.reading.proofs.Texts.{read-append}
 
 -- these words, on this line, in this mode, and no fault
 abbrev reading : List ℕ → ℕ → Mode → Read

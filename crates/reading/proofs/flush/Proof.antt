@@ -4,10 +4,10 @@ use mathlib.Core.Path.{sym, ap}
 use borrow.Author.Needs.{needs}
 use Rattle.base.specs.Lists.{each}
 use Rattle.digits.proofs.Due.{wrote-as, wrote-none}
-use Rattle.decimal.specs.Bytes.{bytesOf}
-use Rattle.decimal.proofs.Modes.{pending-bytes, pending-none}
-use Rattle.decimal.proofs.flush.Statement.{statement}
-use Rattle.decimal.proofs.flush.Tie as tie
+use Rattle.reading.specs.Bytes.{bytesOf}
+use Rattle.reading.proofs.Modes.{pending-bytes, pending-none}
+use Rattle.reading.proofs.flush.Statement.{statement}
+use Rattle.reading.proofs.flush.Tie as tie
 
 put-word-requires : tie.Need-put-word-requires
 put-word-requires c κs = (c .before .if1 .taken, c .before .before .before .pre (c .before .if1 .taken))

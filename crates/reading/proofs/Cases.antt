@@ -8,8 +8,8 @@ use lib.Dec.{eqb}
 use borrow.Author.Tests.{lt-ltb, le-ltb, eq-eqb, ne-eqb}
 use Rattle.base.specs.Checks.{outside}
 use Rattle.formats.specs.Limits.{wordLimit}
-use Rattle.decimal.specs.Reading.{within, comment, Read, value, inComment, flush, become, nextLine, faulty}
-use Rattle.decimal.specs.Reading.{blank, valued, wordByte, lineByte, textByte, step}
+use Rattle.reading.specs.Reading.{within, comment, Read, value, inComment, flush, become, nextLine, faulty}
+use Rattle.reading.specs.Reading.{blank, valued, wordByte, lineByte, textByte, step}
 
 -- BLANKS
 

@@ -1,14 +1,14 @@
--- `decimal::text_byte` meets its contract, case by case.
+-- `reading::text_byte` meets its contract, case by case.
 -- Rests on Modes, Cases, Turns.
 use mathlib.Core.Path.{sym, ap, _∙_}
 use native.Mathlib.Omega.{arith}
 use borrow.Author.Needs.{needs}
-use Rattle.decimal.specs.Reading.{inComment}
-use Rattle.decimal.proofs.Modes.{comment-yes, comment-no}
-use Rattle.decimal.proofs.Cases.{text-newline, text-comment, text-line}
-use Rattle.decimal.proofs.Turns.{holds-as, stays, next-line}
-use Rattle.decimal.proofs.text_byte.Statement.{statement}
-use Rattle.decimal.proofs.text_byte.Tie as tie
+use Rattle.reading.specs.Reading.{inComment}
+use Rattle.reading.proofs.Modes.{comment-yes, comment-no}
+use Rattle.reading.proofs.Cases.{text-newline, text-comment, text-line}
+use Rattle.reading.proofs.Turns.{holds-as, stays, next-line}
+use Rattle.reading.proofs.text_byte.Statement.{statement}
+use Rattle.reading.proofs.text_byte.Tie as tie
 
 returns : tie.Need-returns
 returns c =

@@ -10,11 +10,11 @@ use Rattle.base.specs.Lists.{each}
 use Rattle.formats.specs.Limits.{wordLimit}
 use Rattle.digits.specs.Wrote.{Wrote}
 use Rattle.digits.proofs.Due.{wrote-as, wrote-then}
-use Rattle.decimal.specs.declared.Reading.{Reading}
-use Rattle.decimal.specs.Reading.{Mode, within, Read, pending, flush, become, nextLine, faulty}
-use Rattle.decimal.specs.Bytes.{bytesOf}
-use Rattle.decimal.specs.Held.{modeOf, Holds}
-use Rattle.decimal.proofs.Modes.{mode-within, mode-between, pending-bytes, pending-none, bytes-append}
+use Rattle.reading.specs.declared.Reading.{Reading}
+use Rattle.reading.specs.Reading.{Mode, within, Read, pending, flush, become, nextLine, faulty}
+use Rattle.reading.specs.Bytes.{bytesOf}
+use Rattle.reading.specs.Held.{modeOf, Holds}
+use Rattle.reading.proofs.Modes.{mode-within, mode-between, pending-bytes, pending-none, bytes-append}
 
 pub holds-as : {old : List ℕ} {i : ℕ} {r q : Read} {row : List ℕ} {s : Reading} → Holds old i r row s → q ≡ r → Holds old i q row s
 holds-as {old} {i} {row = row} {s} H e = subst (λ (x : Read). Holds old i x row s) (sym e) H

@@ -3,9 +3,9 @@
 use Prim.Native.Nat.{_-_}
 use borrow.Author.Needs.{needs}
 use lib.ListN.{length}
-use Rattle.decimal.proofs.Texts.{Going, going-begins, going-room, going-line, going-on, going-ends}
-use Rattle.decimal.proofs.take_bytes.Statement.{statement}
-use Rattle.decimal.proofs.take_bytes.Tie as tie
+use Rattle.reading.proofs.Texts.{Going, going-begins, going-room, going-line, going-on, going-ends}
+use Rattle.reading.proofs.take_bytes.Statement.{statement}
+use Rattle.reading.proofs.take_bytes.Tie as tie
 
 abbrev Inv-loop : tie.InvT-loop
 Inv-loop text out₀ s₀ i₀ out s i = Going text out₀ out s i

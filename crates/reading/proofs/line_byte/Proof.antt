@@ -1,15 +1,15 @@
--- `decimal::line_byte` meets its contract, case by case.
+-- `reading::line_byte` meets its contract, case by case.
 -- Rests on Modes, Cases, Turns.
 use mathlib.Core.Path.{sym, ap, _∙_}
 use native.Mathlib.Omega.{arith}
 use borrow.Author.Needs.{needs}
 use Rattle.formats.specs.Limits.{wordLimit}
-use Rattle.decimal.specs.Reading.{Mode, Read, flush, become}
-use Rattle.decimal.proofs.Modes.{mode-between, mode-comment}
-use Rattle.decimal.proofs.Cases.{line-hash, line-blank, line-word}
-use Rattle.decimal.proofs.Turns.{holds-as, flushes}
-use Rattle.decimal.proofs.line_byte.Statement.{statement}
-use Rattle.decimal.proofs.line_byte.Tie as tie
+use Rattle.reading.specs.Reading.{Mode, Read, flush, become}
+use Rattle.reading.proofs.Modes.{mode-between, mode-comment}
+use Rattle.reading.proofs.Cases.{line-hash, line-blank, line-word}
+use Rattle.reading.proofs.Turns.{holds-as, flushes}
+use Rattle.reading.proofs.line_byte.Statement.{statement}
+use Rattle.reading.proofs.line_byte.Tie as tie
 
 returns : tie.Need-returns
 returns c =

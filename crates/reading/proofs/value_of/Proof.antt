@@ -1,10 +1,10 @@
--- `decimal::value_of` meets its contract.
+-- `reading::value_of` meets its contract.
 -- Rests on Modes.
 use mathlib.Core.Path.{sym}
 use native.Mathlib.Omega.{arith}
-use Rattle.decimal.proofs.Modes.{value-within, value-none}
-use Rattle.decimal.proofs.value_of.Statement.{statement}
-use Rattle.decimal.proofs.value_of.Tie as tie
+use Rattle.reading.proofs.Modes.{value-within, value-none}
+use Rattle.reading.proofs.value_of.Statement.{statement}
+use Rattle.reading.proofs.value_of.Tie as tie
 
 returns : tie.Need-returns
 returns c = (sym (value-within (c .before .args .mode) (c .if1 .taken)), c .if1 .taken)

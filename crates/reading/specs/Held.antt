@@ -7,9 +7,9 @@ use Prim.Native.Nat.{ℕ, suc, _<_, _≤_}
 use lib.Dec.{eqb, ltb}
 use Rattle.formats.specs.Limits.{wordLimit}
 use Rattle.digits.specs.Wrote.{Wrote}
-use Rattle.decimal.specs.declared.Reading.{Reading}
-use Rattle.decimal.specs.Reading.{Mode, between, within, comment, Read}
-use Rattle.decimal.specs.Bytes.{bytesOf}
+use Rattle.reading.specs.declared.Reading.{Reading}
+use Rattle.reading.specs.Reading.{Mode, between, within, comment, Read}
+use Rattle.reading.specs.Bytes.{bytesOf}
 
 -- the longest text
 abbrev pub textLimit : ℕ

@@ -10,9 +10,9 @@ use lib.Dec.{eqb}
 use borrow.Author.Tests.{lt-ltb, le-ltb, eqb-true, eqb-false, ne-eqb}
 use Rattle.base.specs.Lists.{each}
 use Rattle.formats.specs.Limits.{wordLimit}
-use Rattle.decimal.specs.Reading.{Mode, between, within, comment, value, pending, inComment}
-use Rattle.decimal.specs.Bytes.{wordBytes, bytesOf}
-use Rattle.decimal.specs.Held.{modeOf}
+use Rattle.reading.specs.Reading.{Mode, between, within, comment, value, pending, inComment}
+use Rattle.reading.specs.Bytes.{wordBytes, bytesOf}
+use Rattle.reading.specs.Held.{modeOf}
 
 pub mode-within : (m : ℕ) → m < wordLimit → modeOf m ≡ within m
 unfolding modeOf

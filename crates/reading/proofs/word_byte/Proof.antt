@@ -1,12 +1,12 @@
--- `decimal::word_byte` meets its contract, case by case.
+-- `reading::word_byte` meets its contract, case by case.
 -- Rests on Cases, Turns.
 use mathlib.Core.Path.{ap, _∙_}
 use borrow.Author.Needs.{needs}
-use Rattle.decimal.specs.Reading.{value}
-use Rattle.decimal.proofs.Cases.{below-digits, above-digits, digit-more, digit-large}
-use Rattle.decimal.proofs.Turns.{holds-as, faults, values}
-use Rattle.decimal.proofs.word_byte.Statement.{statement}
-use Rattle.decimal.proofs.word_byte.Tie as tie
+use Rattle.reading.specs.Reading.{value}
+use Rattle.reading.proofs.Cases.{below-digits, above-digits, digit-more, digit-large}
+use Rattle.reading.proofs.Turns.{holds-as, faults, values}
+use Rattle.reading.proofs.word_byte.Statement.{statement}
+use Rattle.reading.proofs.word_byte.Tie as tie
 
 returns : tie.Need-returns
 returns c = λ row old i r H. holds-as (faults H (c .fault-at .ensures)) (below-digits r (c .before .before .args .b) (c .before .if1 .taken))

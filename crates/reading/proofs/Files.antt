@@ -7,7 +7,7 @@ use native.Mathlib.Omega.{arith}
 use lib.ListN.{length, getD}
 use Rattle.base.specs.Lists.{each, from}
 use Rattle.formats.specs.File.{wordOf, wordsOf}
-use Rattle.decimal.specs.Bytes.{bytesOf}
+use Rattle.reading.specs.Bytes.{bytesOf}
 
 later : (f g : ℕ → ℕ) → ((i : ℕ) → f (suc i) ≡ g i) → (n a : ℕ) → map f (from (suc a) n) ≡ map g (from a n)
 unfolding from
