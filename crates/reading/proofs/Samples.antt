@@ -1,38 +1,79 @@
--- Sample texts, by computing: what is read.
--- Rests on specs Reading.
+-- Sample texts, by computing: what is read, and what is said of a fault.
+-- Rests on specs Reading and Said.
 use mathlib.Core.Path.{_≡_, refl}
 use mathlib.Core.Bool.{true, false}
 use mathlib.Core.List.{List, [], _∷_, map}
+use mathlib.Core.Option.{Option, some, none}
 use Prim.Native.Nat.{ℕ}
-use lib.Dec.{eqb}
 use Rattle.base.specs.Checks.{outside}
-use Rattle.reading.specs.Reading.{value, pending, inComment, flush, blank, valued, wordByte, lineByte, textByte, step, start}
-use Rattle.reading.specs.Reading.{readOn, readWords}
+use Rattle.formats.specs.Listing.{digits, decimal}
+use Rattle.digits.specs.Spaced.{spaced}
+use Rattle.reading.specs.Reading.{next, What, other, large, many, nothing, Fault, value, pending, outsideWord, inComment, flush, blank, full}
+use Rattle.reading.specs.Reading.{valued, wordByte, lineByte, textByte, unlessFaulty, step, start, readOn, worded, ended, readWords}
+use Rattle.reading.specs.Said.{placeText, otherText, whatText, saidText}
 
--- the fault's line, or 0 and the words
-unfoldable pub outcome : List ℕ → List ℕ
-outcome bs = let r = readWords bs in elim (eqb (r .fault) 0) [ true ↦ 0 ∷ r .words | false ↦ r .fault ∷ [] ]
+abbrev fault : ℕ → ℕ → What → Option Fault
+fault l c w = some (record { line = l; column = c; what = w })
 
-unfoldable pub texts : List (List ℕ × List ℕ)
+-- a text, the words that were read, the fault
+unfoldable pub texts : List (List ℕ × List ℕ × Option Fault)
 texts =
     -- nothing
-    ([], 0 ∷ [])
+    ([], [], fault 1 1 nothing)
+    -- `# a`, a newline, `#`: comments only; the text ends at line 2, column 2
+    ∷ (35 ∷ 32 ∷ 97 ∷ 10 ∷ 35 ∷ [], [], fault 2 2 nothing)
+    -- `3 0`, a newline, `12`
+    ∷ (51 ∷ 32 ∷ 48 ∷ 10 ∷ 49 ∷ 50 ∷ [], 3 ∷ 0 ∷ 12 ∷ [], none)
     -- `7#8`: a comment at the end, with no newline
-    ∷ (55 ∷ 35 ∷ 56 ∷ [], 0 ∷ 7 ∷ [])
+    ∷ (55 ∷ 35 ∷ 56 ∷ [], 7 ∷ [], none)
     -- `#7#a`, a newline, `8`: a comment ends with its line
-    ∷ (35 ∷ 55 ∷ 35 ∷ 97 ∷ 10 ∷ 56 ∷ [], 0 ∷ 8 ∷ [])
+    ∷ (35 ∷ 55 ∷ 35 ∷ 97 ∷ 10 ∷ 56 ∷ [], 8 ∷ [], none)
     -- `1`, a tab, `2`, a carriage return, a newline, `03`
-    ∷ (49 ∷ 9 ∷ 50 ∷ 13 ∷ 10 ∷ 48 ∷ 51 ∷ [], 0 ∷ 1 ∷ 2 ∷ 3 ∷ [])
+    ∷ (49 ∷ 9 ∷ 50 ∷ 13 ∷ 10 ∷ 48 ∷ 51 ∷ [], 1 ∷ 2 ∷ 3 ∷ [], none)
     -- `65535`, the largest word
-    ∷ (54 ∷ 53 ∷ 53 ∷ 51 ∷ 53 ∷ [], 0 ∷ 65535 ∷ [])
-    -- two newlines, `65536`: a fault on line 3
-    ∷ (10 ∷ 10 ∷ 54 ∷ 53 ∷ 53 ∷ 51 ∷ 54 ∷ [], 3 ∷ [])
-    -- `12a`, a newline, `a`: the first fault is on line 1
-    ∷ (49 ∷ 50 ∷ 97 ∷ 10 ∷ 97 ∷ [], 1 ∷ [])
-    -- `-1`: no sign
-    ∷ (45 ∷ 49 ∷ [], 1 ∷ [])
+    ∷ (54 ∷ 53 ∷ 53 ∷ 51 ∷ 53 ∷ [], 65535 ∷ [], none)
+    -- `65536`
+    ∷ (54 ∷ 53 ∷ 53 ∷ 51 ∷ 54 ∷ [], [], fault 1 5 (large 65536))
+    -- two newlines, `999999`
+    ∷ (10 ∷ 10 ∷ 57 ∷ 57 ∷ 57 ∷ 57 ∷ 57 ∷ 57 ∷ [], [], fault 3 5 (large 99999))
+    -- `7x`
+    ∷ (55 ∷ 120 ∷ [], [], fault 1 2 (other 120))
+    -- `1`, a newline, `22`, a space, `-3`: no sign
+    ∷ (49 ∷ 10 ∷ 50 ∷ 50 ∷ 32 ∷ 45 ∷ 51 ∷ [], 1 ∷ 22 ∷ [], fault 2 4 (other 45))
+    -- a tab, a byte 200
+    ∷ (9 ∷ 200 ∷ [], [], fault 1 2 (other 200))
+    -- `12a`, a newline, `a`: the first fault counts
+    ∷ (49 ∷ 50 ∷ 97 ∷ 10 ∷ 97 ∷ [], [], fault 1 3 (other 97))
     ∷ []
 
-pub read-as : map (λ s. outcome (s .0)) texts ≡ map (λ s. s .1) texts
-unfolding texts outcome value pending inComment flush blank valued wordByte lineByte textByte step start readOn readWords outside
+pub read-as : map {B = List ℕ × Option Fault} (λ s. (readWords (s .0) .words, readWords (s .0) .fault)) texts
+    ≡ map {B = List ℕ × Option Fault} (λ s. (s .1, s .2)) texts
+unfolding texts next value pending outsideWord inComment flush blank full valued wordByte lineByte textByte unlessFaulty step start readOn worded ended readWords outside
 read-as = refl
+
+-- a fault, and what is said of it
+unfoldable pub lines : List (ℕ × ℕ × What × List ℕ)
+lines =
+    -- `line 1, column 2: 'x' is not a digit`
+    (1, 2, other 120, 108 ∷ 105 ∷ 110 ∷ 101 ∷ 32 ∷ 49 ∷ 44 ∷ 32 ∷ 99 ∷ 111 ∷ 108 ∷ 117 ∷ 109 ∷ 110 ∷ 32 ∷ 50 ∷ 58 ∷ 32 ∷ 39 ∷ 120 ∷ 39 ∷ 32 ∷ 105 ∷ 115 ∷ 32 ∷ 110 ∷ 111 ∷ 116 ∷ 32 ∷ 97 ∷ 32 ∷ 100 ∷ 105 ∷ 103 ∷ 105 ∷ 116 ∷ 10 ∷ [])
+    -- the first and the last byte that stand in quotes, and those beside them
+    ∷ (1, 1, other 33, 108 ∷ 105 ∷ 110 ∷ 101 ∷ 32 ∷ 49 ∷ 44 ∷ 32 ∷ 99 ∷ 111 ∷ 108 ∷ 117 ∷ 109 ∷ 110 ∷ 32 ∷ 49 ∷ 58 ∷ 32 ∷ 39 ∷ 33 ∷ 39 ∷ 32 ∷ 105 ∷ 115 ∷ 32 ∷ 110 ∷ 111 ∷ 116 ∷ 32 ∷ 97 ∷ 32 ∷ 100 ∷ 105 ∷ 103 ∷ 105 ∷ 116 ∷ 10 ∷ [])
+    ∷ (1, 1, other 126, 108 ∷ 105 ∷ 110 ∷ 101 ∷ 32 ∷ 49 ∷ 44 ∷ 32 ∷ 99 ∷ 111 ∷ 108 ∷ 117 ∷ 109 ∷ 110 ∷ 32 ∷ 49 ∷ 58 ∷ 32 ∷ 39 ∷ 126 ∷ 39 ∷ 32 ∷ 105 ∷ 115 ∷ 32 ∷ 110 ∷ 111 ∷ 116 ∷ 32 ∷ 97 ∷ 32 ∷ 100 ∷ 105 ∷ 103 ∷ 105 ∷ 116 ∷ 10 ∷ [])
+    ∷ (1, 1, other 32, 108 ∷ 105 ∷ 110 ∷ 101 ∷ 32 ∷ 49 ∷ 44 ∷ 32 ∷ 99 ∷ 111 ∷ 108 ∷ 117 ∷ 109 ∷ 110 ∷ 32 ∷ 49 ∷ 58 ∷ 32 ∷ 98 ∷ 121 ∷ 116 ∷ 101 ∷ 32 ∷ 51 ∷ 50 ∷ 32 ∷ 105 ∷ 115 ∷ 32 ∷ 110 ∷ 111 ∷ 116 ∷ 32 ∷ 97 ∷ 32 ∷ 100 ∷ 105 ∷ 103 ∷ 105 ∷ 116 ∷ 10 ∷ [])
+    ∷ (1, 1, other 127, 108 ∷ 105 ∷ 110 ∷ 101 ∷ 32 ∷ 49 ∷ 44 ∷ 32 ∷ 99 ∷ 111 ∷ 108 ∷ 117 ∷ 109 ∷ 110 ∷ 32 ∷ 49 ∷ 58 ∷ 32 ∷ 98 ∷ 121 ∷ 116 ∷ 101 ∷ 32 ∷ 49 ∷ 50 ∷ 55 ∷ 32 ∷ 105 ∷ 115 ∷ 32 ∷ 110 ∷ 111 ∷ 116 ∷ 32 ∷ 97 ∷ 32 ∷ 100 ∷ 105 ∷ 103 ∷ 105 ∷ 116 ∷ 10 ∷ [])
+    -- `line 3, column 7: 65536 is above 65535`
+    ∷ (3, 7, large 65536, 108 ∷ 105 ∷ 110 ∷ 101 ∷ 32 ∷ 51 ∷ 44 ∷ 32 ∷ 99 ∷ 111 ∷ 108 ∷ 117 ∷ 109 ∷ 110 ∷ 32 ∷ 55 ∷ 58 ∷ 32 ∷ 54 ∷ 53 ∷ 53 ∷ 51 ∷ 54 ∷ 32 ∷ 105 ∷ 115 ∷ 32 ∷ 97 ∷ 98 ∷ 111 ∷ 118 ∷ 101 ∷ 32 ∷ 54 ∷ 53 ∷ 53 ∷ 51 ∷ 53 ∷ 10 ∷ [])
+    -- `line 12, column 345: more than 262144 words`
+    ∷ (12, 345, many, 108 ∷ 105 ∷ 110 ∷ 101 ∷ 32 ∷ 49 ∷ 50 ∷ 44 ∷ 32 ∷ 99 ∷ 111 ∷ 108 ∷ 117 ∷ 109 ∷ 110 ∷ 32 ∷ 51 ∷ 52 ∷ 53 ∷ 58 ∷ 32 ∷ 109 ∷ 111 ∷ 114 ∷ 101 ∷ 32 ∷ 116 ∷ 104 ∷ 97 ∷ 110 ∷ 32 ∷ 50 ∷ 54 ∷ 50 ∷ 49 ∷ 52 ∷ 52 ∷ 32 ∷ 119 ∷ 111 ∷ 114 ∷ 100 ∷ 115 ∷ 10 ∷ [])
+    -- `line 1, column 1: no word`
+    ∷ (1, 1, nothing, 108 ∷ 105 ∷ 110 ∷ 101 ∷ 32 ∷ 49 ∷ 44 ∷ 32 ∷ 99 ∷ 111 ∷ 108 ∷ 117 ∷ 109 ∷ 110 ∷ 32 ∷ 49 ∷ 58 ∷ 32 ∷ 110 ∷ 111 ∷ 32 ∷ 119 ∷ 111 ∷ 114 ∷ 100 ∷ 10 ∷ [])
+    ∷ []
+
+pub said-as : map (λ s. saidText (record { line = s .0; column = s .1; what = s .2 })) lines ≡ map (λ s. s .3) lines
+unfolding lines placeText otherText whatText saidText spaced digits decimal outside
+said-as = refl
+
+-- lines and columns are counted to 999999999
+pub counted-as : (next 1 ≡ 2) × (next 999999998 ≡ 999999999) × (next 999999999 ≡ 999999999)
+unfolding next
+counted-as = (refl, refl, refl)

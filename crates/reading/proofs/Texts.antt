@@ -1,95 +1,67 @@
--- The loop over a text's bytes: one turn, its end, and the word that is still being read there.
--- Rests on digits Wrote and Due, specs Reading, Bytes and Held, Modes, Turns.
+-- The bytes of a piece, one after the other; the end of a text.
+-- Rests on digits Wrote and Due, specs Reading, Bytes, Said and Held, Cases, Modes, Turns.
 use mathlib.Core.Path.{_≡_, refl, sym, ap, subst, _∙_}
-use mathlib.Core.List.{List, [], _∷_, _++_}
+use mathlib.Core.List.{List, [], _∷_, _++_, append-assoc, append-nil}
+use mathlib.Core.Option.{Option, some, none}
 use Prim.Native.Nat.{ℕ, suc, _+_, _<_, _≤_}
+use native.Mathlib.Numerals.{add-one}
 use native.Mathlib.Omega.{arith}
-use native.Mathlib.Decide.{decLt}
 use lib.ListN.{length, getD, take}
 use lib.Seq.{take-suc, take-all}
-use Rattle.base.specs.Lists.{each}
-use Rattle.formats.specs.Limits.{wordLimit}
 use Rattle.digits.specs.Wrote.{Wrote}
-use Rattle.digits.proofs.Due.{wrote-none}
+use Rattle.digits.proofs.Due.{wrote-as, wrote-none}
 use Rattle.reading.specs.declared.Reading.{Reading}
-use Rattle.reading.specs.Reading.{Read, pending, flush, step, start, readOn, readWords}
+use Rattle.reading.specs.Reading.{Fault, Read, step, start, ended, readOn, readWords}
 use Rattle.reading.specs.Bytes.{bytesOf}
-use Rattle.reading.specs.Held.{textLimit, modeOf, Holds, Turns}
-use Rattle.reading.proofs.Modes.{mode-between}
-use Rattle.reading.proofs.Turns.{holds-as, pending-two, pending-no, flushed}
+use Rattle.reading.specs.Said.{saidText, encodedBytes, encodedSaid}
+use Rattle.reading.specs.Held.{faultAt, Holds, Turns, Feeds}
+use Rattle.reading.proofs.Turns.{holds-as, held-none, held-fault}
 
+-- reading on: a text in two parts
 pub read-append : (r : Read) (xs ys : List ℕ) → readOn r (xs ++ ys) ≡ readOn (readOn r xs) ys
 unfolding readOn
 read-append r [] ys = refl
 read-append r (x ∷ xs) ys = read-append (step r x) xs ys
 
-module _ (text : List ℕ) where
-  -- the first i bytes of the text are read
-  pub record Going (old out : List ℕ) (s : Reading) (i : ℕ) : Type 0 where
-    pub inside : i ≤ length text
-    pub same : length out ≡ length old
-    pub holds : Holds old i (readOn start (take i text)) out s
+-- A PIECE
 
-  pub going-begins : (old : List ℕ) → Going old old (record { size = 0; line = 1; mode = wordLimit; fault = 0 }) 0
-  unfolding start readOn bytesOf each
-  going-begins old =
-      record {
-        inside = omega arith;
-        same = refl;
-        holds = record {
-          wrote = wrote-none old 0;
-          is-line = refl;
-          is-mode = mode-between;
-          is-fault = refl;
-          lines = omega arith;
-          most = omega arith;
-          room = λ l. absurd (omega arith);
-        };
-      }
+pub feeds-none : (row : List ℕ) (s : Reading) (text : List ℕ) → Feeds (take 0 text) row s row s
+feeds-none row s text old xs H = holds-as H (ap (readOn start) (append-nil xs))
 
-  module _ {old out : List ℕ} {s : Reading} {i : ℕ} (G : Going old out s i) where
-    -- there is room for a word, and the line's number is small
-    pub going-room : i < length text → length text + 1 ≤ length old → s .mode < wordLimit → s .size + 2 ≤ length out
-    going-room l h m = omega (arith, G .holds .room m, G .same)
+pub feeds-next : (text : List ℕ) (i : ℕ) → i < length text → {row out new : List ℕ} {s t u : Reading} → Feeds (take i text) row s out t
+    → Turns (λ x. step x (getD text i 0)) out t new u → Feeds (take (i + 1) text) row s new u
+unfolding readOn
+feeds-next text i l F T old xs H = holds-as (T old _ (F old xs H)) more
+  where
+    more : readOn start (xs ++ take (i + 1) text) ≡ step (readOn start (xs ++ take i text)) (getD text i 0)
+    more =
+        ap (λ (n : ℕ). readOn start (xs ++ take n text)) (add-one i)
+        ∙ ap (λ (ys : List ℕ). readOn start (xs ++ ys)) (take-suc text i 0 l)
+        ∙ ap (readOn start) (sym (append-assoc xs (take i text) (getD text i 0 ∷ [])))
+        ∙ read-append start (xs ++ take i text) (getD text i 0 ∷ [])
 
-    pub going-line : i < length text → length text ≤ textLimit → s .line ≤ textLimit
-    going-line l h = omega (arith, G .holds .lines)
+pub feeds-all : (text : List ℕ) (i : ℕ) → length text ≤ i → {row out : List ℕ} {s t : Reading} → Feeds (take i text) row s out t → Feeds text row s out t
+feeds-all text i l F old xs H = holds-as (F old xs H) (ap (λ (ys : List ℕ). readOn start (xs ++ ys)) (sym (take-all i text l)))
 
-    pub going-on : i < length text → {new : List ℕ} {t : Reading} → Turns (λ x. step x (getD text i 0)) out s new t → length new ≡ length out
-        → Going old new t (i + 1)
-    unfolding readOn
-    going-on l {new} {t} T e =
-        let p : i + 1 ≡ suc i = omega arith in
-        let q : readOn start (take (suc i) text) ≡ step (readOn start (take i text)) (getD text i 0)
-        = ap (readOn start) (take-suc text i 0 l) ∙ read-append start (take i text) (getD text i 0 ∷ []) in
-        record {
-          inside = omega arith;
-          same = e ∙ G .same;
-          holds = subst (λ (n : ℕ). Holds old n (readOn start (take n text)) new t) (sym p) (holds-as (T old i _ (G .holds)) q);
-        }
+-- THE END
 
-    pub going-ends : length text ≤ i → Holds old (length text) (readOn start text) out s
-    going-ends l =
-        let p : i ≡ length text = omega (arith, G .inside) in
-        holds-as (subst (λ (n : ℕ). Holds old n (readOn start (take i text)) out s) p (G .holds)) (ap (readOn start) (sym (take-all i text l)))
+module _ (xs : List ℕ) {old new : List ℕ} {t : Reading} (H : Holds old (readWords xs) new t) where
+  -- no fault: the bytes, and nothing is said
+  module _ (z : t .fault ≡ 0) where
+    pub done-bytes : take (t .size) new ≡ encodedBytes xs
+    unfolding encodedBytes
+    done-bytes = H .wrote .front ∙ ap (λ (o : Option Fault). elim o [ none ↦ bytesOf (readWords xs .words) | some f ↦ [] ]) (sym (held-none H z))
 
-  -- the text's end
-  module _ {old out : List ℕ} {s : Reading} (H : Holds old (length text) (readOn start text) out s) (h : length text + 1 ≤ length out) where
-    pub last-room : s .mode < wordLimit → s .size + 2 ≤ length out
-    last-room m = omega (arith, H .room m)
+    pub done-said : (said : List ℕ) → Wrote said 0 (encodedSaid xs) said 0
+    unfolding encodedSaid
+    done-said said = wrote-as (wrote-none said 0) (ap (λ (o : Option Fault). elim o [ none ↦ [] | some f ↦ saidText f ]) (sym (held-none H z)))
 
-    module _ {new : List ℕ} {p : ℕ} (W : Wrote out (s .size) (bytesOf (pending (modeOf (s .mode)))) new p) where
-      pub last-fault : s .fault ≡ readWords text .fault
-      unfolding readWords flush
-      last-fault = H .is-fault
+  -- a fault: no bytes, and it is told
+  module _ (n : t .fault ≡ 0 → ⊥) where
+    pub told-bytes : take 0 new ≡ encodedBytes xs
+    unfolding encodedBytes
+    told-bytes = ap (λ (o : Option Fault). elim o [ none ↦ bytesOf (readWords xs .words) | some f ↦ [] ]) (sym (held-fault H n))
 
-      pub last-words : Wrote old 0 (bytesOf (readWords text .words)) new p
-      unfolding readWords
-      last-words = flushed H W
-
-      pub last-inside : length new ≡ length out → p ≤ length new
-      last-inside e = go (decLt (s .mode) wordLimit)
-        where
-          go : Dec (s .mode < wordLimit) → p ≤ length new
-          go (yes l) = omega (arith, W .is-end, pending-two (s .mode) l, H .room l)
-          go (no l) = omega (arith, W .is-end, pending-no (s .mode) (omega arith), H .most)
+    pub told-said : {said saying : List ℕ} {r : ℕ} → Wrote said 0 (saidText (faultAt t)) saying r → Wrote said 0 (encodedSaid xs) saying r
+    unfolding encodedSaid
+    told-said W = wrote-as W (ap (λ (o : Option Fault). elim o [ none ↦ [] | some f ↦ saidText f ]) (sym (held-fault H n)))
