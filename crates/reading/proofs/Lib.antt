@@ -16,5 +16,5 @@ pub mod Files
 pub mod Few
 -- a text that was written reads back: round-trip, round-encoded
 pub mod RoundTrip
--- sample texts and faults, by computing: read-as, said-as, counted-as
+-- sample texts and faults, by computing: read-as, said-as, limits-as, counted-as
 pub mod Samples

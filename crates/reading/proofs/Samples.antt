@@ -1,16 +1,17 @@
 -- Sample texts, by computing: what is read, and what is said of a fault.
--- Rests on specs Reading and Said.
+-- Rests on formats Limits and Listing, digits Spaced, specs Reading and Said.
 use mathlib.Core.Path.{_≡_, refl}
 use mathlib.Core.Bool.{true, false}
-use mathlib.Core.List.{List, [], _∷_, map}
+use mathlib.Core.List.{List, [], _∷_, _++_, map}
 use mathlib.Core.Option.{Option, some, none}
-use Prim.Native.Nat.{ℕ}
+use Prim.Native.Nat.{ℕ, _-_}
 use Rattle.base.specs.Checks.{outside}
+use Rattle.formats.specs.Limits.{wordLimit}
 use Rattle.formats.specs.Listing.{digits, decimal}
 use Rattle.digits.specs.Spaced.{spaced}
-use Rattle.reading.specs.Reading.{next, What, other, large, many, nothing, Fault, value, pending, outsideWord, inComment, flush, blank, full}
+use Rattle.reading.specs.Reading.{mostWords, next, What, other, large, many, nothing, Fault, value, pending, outsideWord, inComment, flush, blank, full}
 use Rattle.reading.specs.Reading.{valued, wordByte, lineByte, textByte, unlessFaulty, step, start, readOn, worded, ended, readWords}
-use Rattle.reading.specs.Said.{placeText, otherText, whatText, saidText}
+use Rattle.reading.specs.Said.{aboveText, placeText, otherText, whatText, saidText}
 
 abbrev fault : ℕ → ℕ → What → Option Fault
 fault l c w = some (record { line = l; column = c; what = w })
@@ -72,6 +73,20 @@ lines =
 pub said-as : map (λ s. saidText (record { line = s .0; column = s .1; what = s .2 })) lines ≡ map (λ s. s .3) lines
 unfolding lines placeText otherText whatText saidText spaced digits decimal outside
 said-as = refl
+
+-- what is said of a limit is the limit: `more than`, ` words`, ` is above`
+abbrev moreText : List ℕ
+moreText = 109 ∷ 111 ∷ 114 ∷ 101 ∷ 32 ∷ 116 ∷ 104 ∷ 97 ∷ 110 ∷ []
+
+abbrev wordsText : List ℕ
+wordsText = 32 ∷ 119 ∷ 111 ∷ 114 ∷ 100 ∷ 115 ∷ []
+
+abbrev isAboveText : List ℕ
+isAboveText = 32 ∷ 105 ∷ 115 ∷ 32 ∷ 97 ∷ 98 ∷ 111 ∷ 118 ∷ 101 ∷ []
+
+pub limits-as : (whatText many ≡ moreText ++ (spaced mostWords ++ wordsText)) × (aboveText ≡ isAboveText ++ spaced (wordLimit - 1))
+unfolding whatText spaced digits decimal
+limits-as = (refl, refl)
 
 -- lines and columns are counted to 999999999
 pub counted-as : (next 1 ≡ 2) × (next 999999998 ≡ 999999999) × (next 999999999 ≡ 999999999)

@@ -367,16 +367,16 @@ fn end_text(out: &mut [u8], s: Reading) -> Reading
     if s.fault != 0 {
         return s;
     }
-    let p = flush(out, s.size, s.mode);
+    let size = flush(out, s.size, s.mode);
     let t = Reading {
-        size: p,
+        size: size,
         line: s.line,
         column: s.column,
         mode: BETWEEN,
         fault: s.fault,
         found: s.found,
     };
-    if p == 0 {
+    if size == 0 {
         return fault_at(t, NOTHING, 0);
     }
     t
@@ -390,12 +390,12 @@ pub fn finish(s: Reading, out: &mut [u8], said: &mut [u8]) -> Encoded
     ensures { λ r. ⌜ Leaves (now (out .entry)) s (now (out .exit)) (now (said .entry)) (now (said .exit)) r ⌝ }
 {
     let t = end_text(out, s);
-    if t.fault == 0 {
-        return Encoded {
-            size: t.size,
-            said: 0,
-        };
+    if t.fault != 0 {
+        let n = say(t, said);
+        return Encoded { size: 0, said: n };
     }
-    let n = say(t, said);
-    Encoded { size: 0, said: n }
+    Encoded {
+        size: t.size,
+        said: 0,
+    }
 }
