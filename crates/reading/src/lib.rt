@@ -265,7 +265,7 @@ fn take_byte(out: &mut [u8], s: Reading, b: u8) -> Reading
 // Writes `line 3, column 7: `.
 fn say_place(line: usize, column: usize, said: &mut [u8]) -> usize
     requires { ⌜ (line ≤ mostCount) × (column ≤ mostCount) × (placeRoom ≤ length (now said)) ⌝ }
-    ensures { λ r. ⌜ Wrote (now (said .entry)) 0 (placeText line column) (now (said .exit)) r ⌝ }
+    ensures { λ r. ⌜ Wrote (now (said .entry)) 0 (placeText line column) (now (said .exit)) r × (r ≤ placeRoom) ⌝ }
 {
     let p = put_named(said, 0, b"line", line);
     let q = put_named(said, p, b", column", column);

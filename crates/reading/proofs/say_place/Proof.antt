@@ -2,10 +2,9 @@
 -- Rests on digits Due, Said.
 use native.Mathlib.Omega.{arith}
 use borrow.Author.Needs.{needs}
-use lib.ListN.{length-append}
 use Rattle.digits.proofs.Due.{wrote-then}
 use Rattle.reading.specs.Said.{lineName, columnName, placeText}
-use Rattle.reading.proofs.Said.{named-room}
+use Rattle.reading.proofs.Said.{named-room, place-length}
 use Rattle.reading.proofs.say_place.Statement.{statement}
 use Rattle.reading.proofs.say_place.Tie as tie
 
@@ -41,7 +40,10 @@ put-bytes-requires c κs =
 
 returns : tie.Need-returns
 unfolding placeText
-returns c = wrote-then (c .before .before .before .before .before .before .before .before .before .before .before .before .put-named .ensures) (wrote-then (c .before .before .before .before .before .before .before .put-named2 .ensures) (c .before .before .put-bytes .ensures))
+returns c =
+    let z = c .before .before .before .before .before .before .before .before .before .before .before .before .before .before .before .before in
+    let W = wrote-then (c .before .before .before .before .before .before .before .before .before .before .before .before .put-named .ensures) (wrote-then (c .before .before .before .before .before .before .before .put-named2 .ensures) (c .before .before .put-bytes .ensures)) in
+    (W, omega (arith, W .is-end, place-length (z .args .line) (z .args .column) (z .pre .0) (z .pre .1)))
 
 pub say-place-spec : {M : Type 1} → statement M
 say-place-spec =
