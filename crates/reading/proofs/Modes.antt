@@ -1,5 +1,5 @@
 -- Modes and faults by their numbers: the word that is being read, its value, its bytes; what a fault's number stands for.
--- Rests on base Lists, specs Reading, Bytes and Held.
+-- Rests on base Lists, formats Limits, specs Reading, Bytes and Held.
 use mathlib.Core.Path.{_≡_, refl, ap, _∙_}
 use mathlib.Core.Bool.{Bool, true, false}
 use mathlib.Core.List.{List, [], _∷_, _++_}

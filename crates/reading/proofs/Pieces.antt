@@ -1,5 +1,5 @@
 -- FOR EVERY WAY OF CUTTING A TEXT into pieces, each given to `feed` with the row and the reading as the last call left them: what `finish` leaves
--- are the bytes of the whole text, and what is said of it. Rests on specs Reading, Said and Held.
+-- are the bytes of the whole text, and what is said of it. Rests on digits Wrote, specs Reading, Said and Held.
 use mathlib.Core.Path.{_≡_}
 use mathlib.Core.List.{List, [], _++_}
 use Prim.Native.Nat.{ℕ}

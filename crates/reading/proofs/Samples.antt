@@ -1,7 +1,6 @@
 -- Sample texts, by computing: what is read, and what is said of a fault.
 -- Rests on formats Limits and Listing, digits Spaced, specs Reading and Said.
 use mathlib.Core.Path.{_≡_, refl}
-use mathlib.Core.Bool.{true, false}
 use mathlib.Core.List.{List, [], _∷_, _++_, map}
 use mathlib.Core.Option.{Option, some, none}
 use Prim.Native.Nat.{ℕ, _-_}

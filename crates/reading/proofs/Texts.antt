@@ -1,9 +1,9 @@
 -- The bytes of a piece, one after the other; the end of a text.
--- Rests on digits Wrote and Due, specs Reading, Bytes, Said and Held, Cases, Modes, Turns.
-use mathlib.Core.Path.{_≡_, refl, sym, ap, subst, _∙_}
+-- Rests on digits Wrote and Due, specs Reading, Bytes, Said and Held, Turns.
+use mathlib.Core.Path.{_≡_, refl, sym, ap, _∙_}
 use mathlib.Core.List.{List, [], _∷_, _++_, append-assoc, append-nil}
 use mathlib.Core.Option.{Option, some, none}
-use Prim.Native.Nat.{ℕ, suc, _+_, _<_, _≤_}
+use Prim.Native.Nat.{ℕ, _+_, _<_, _≤_}
 use native.Mathlib.Numerals.{add-one}
 use native.Mathlib.Omega.{arith}
 use lib.ListN.{length, getD, take}
@@ -11,7 +11,7 @@ use lib.Seq.{take-suc, take-all}
 use Rattle.digits.specs.Wrote.{Wrote}
 use Rattle.digits.proofs.Due.{wrote-as, wrote-none}
 use Rattle.reading.specs.declared.Reading.{Reading}
-use Rattle.reading.specs.Reading.{Fault, Read, step, start, ended, readOn, readWords}
+use Rattle.reading.specs.Reading.{Fault, Read, step, start, readOn, readWords}
 use Rattle.reading.specs.Bytes.{bytesOf}
 use Rattle.reading.specs.Said.{saidText, encodedBytes, encodedSaid}
 use Rattle.reading.specs.Held.{faultAt, Holds, Turns, Feeds}

@@ -1,7 +1,7 @@
 -- One byte more: what each case of the reading leaves in the numbers and in the row.
--- Rests on digits Wrote and Due, specs Reading, Bytes and Held, Modes.
+-- Rests on formats Limits, digits Wrote and Due, specs Reading, Bytes and Held, Cases, Modes.
 use mathlib.Core.Path.{_≡_, refl, sym, ap, subst, _∙_}
-use mathlib.Core.Bool.{true, false, _&&_}
+use mathlib.Core.Bool.{false, _&&_}
 use mathlib.Core.List.{List, _++_}
 use mathlib.Core.Option.{Option, some, none}
 use Prim.Native.Nat.{ℕ, suc, _+_, _-_, _*_, _<_, _≤_}

@@ -2,12 +2,12 @@
 -- Rests on base Checks, digits Spaced, formats Listing, Reading, Bytes.
 use mathlib.Core.Bool.{true, false}
 use mathlib.Core.List.{List, [], _∷_, _++_}
-use mathlib.Core.Option.{Option, some, none}
+use mathlib.Core.Option.{some, none}
 use Prim.Native.Nat.{ℕ}
 use Rattle.base.specs.Checks.{outside}
 use Rattle.formats.specs.Listing.{decimal}
 use Rattle.digits.specs.Spaced.{spaced}
-use Rattle.reading.specs.Reading.{What, other, large, many, nothing, Fault, Read, readWords}
+use Rattle.reading.specs.Reading.{What, other, large, many, nothing, Fault, readWords}
 use Rattle.reading.specs.Bytes.{bytesOf}
 
 -- `line`, `, column`, `: `

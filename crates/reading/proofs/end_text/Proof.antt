@@ -1,12 +1,10 @@
 -- A fault stays; else the last word is done, and without any word there is a fault.
 -- Rests on Cases, Modes, Turns.
-use mathlib.Core.Path.{_≡_, sym, _∙_}
+use mathlib.Core.Path.{_∙_}
 use native.Mathlib.Omega.{arith}
 use borrow.Author.Needs.{needs}
 use Rattle.formats.specs.Limits.{wordLimit}
-use Rattle.reading.specs.declared.Reading.{Reading}
-use Rattle.reading.specs.Reading.{between, nothing, Read, flush, worded, ended}
-use Rattle.reading.specs.Held.{Holds, Able}
+use Rattle.reading.specs.Reading.{between, nothing, flush, worded, ended}
 use Rattle.reading.proofs.Cases.{with-none, with-fault, worded-nothing, worded-words}
 use Rattle.reading.proofs.Modes.{mode-between, what-nothing}
 use Rattle.reading.proofs.Turns.{holds-as, held-size, held-none, held-fault, faults, flushed, ends, able-fault, able-with, flush-room, flush-inside}

@@ -1,10 +1,9 @@
 -- `reading::word_byte` meets its contract, case by case.
 -- Rests on Cases, Modes, Turns.
-use mathlib.Core.Path.{_≡_, refl, sym, ap, _∙_}
+use mathlib.Core.Path.{refl, sym, ap, _∙_}
 use native.Mathlib.Omega.{arith}
 use borrow.Author.Needs.{needs}
 use Rattle.reading.specs.Reading.{other, large, many, within, value}
-use Rattle.reading.specs.Held.{whatOf}
 use Rattle.reading.proofs.Cases.{below-digits, above-digits, digit-many, digit-more, digit-large}
 use Rattle.reading.proofs.Modes.{mode-within, what-other, what-large, what-many}
 use Rattle.reading.proofs.Turns.{holds-as, held-full, faults, moves, able-fault, able-on, begin-room}
