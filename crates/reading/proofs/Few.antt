@@ -27,9 +27,12 @@ word-few : (r : Read) → Few r → full r ≡ false → suc (length (r .words))
 unfolding full outsideWord pending
 word-few r h e = go (r .mode) refl
   where
+    begins : outsideWord (r .mode) ≡ true → suc (length (r .words)) ≤ mostWords
+    begins q = ltb-false mostWords (suc (length (r .words))) (ap (λ b. b && ltb mostWords (suc (length (r .words)))) (sym q) ∙ e)
+
     go : (m : Mode) → r .mode ≡ m → suc (length (r .words)) ≤ mostWords
-    go between q = ltb-false mostWords (suc (length (r .words))) (ap (λ (m : Mode). outsideWord m && ltb mostWords (suc (length (r .words)))) (sym q) ∙ e)
-    go comment q = ltb-false mostWords (suc (length (r .words))) (ap (λ (m : Mode). outsideWord m && ltb mostWords (suc (length (r .words)))) (sym q) ∙ e)
+    go between q = begins (ap outsideWord q)
+    go comment q = begins (ap outsideWord q)
     go (within n) q = omega (arith, h, ap (λ (m : Mode). length (pending m)) q)
 
 valued-few : (r : Read) (n : ℕ) → Few r → full r ≡ false → Few (valued r n)

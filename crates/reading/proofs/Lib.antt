@@ -4,7 +4,7 @@ pub mod Modes
 pub mod Cases
 -- one byte more, in the numbers and the row: faults, moves, lines, ends, able-fault, able-with
 pub mod Turns
--- the bytes of a piece, and the end of a text: read-append, feeds-next, feeds-all, done-bytes, told-said
+-- the bytes of a piece, and the end of a text: read-append, feeds-next, feeds-all, encoded-bytes, done-bytes, told-said
 pub mod Texts
 -- the line that tells a fault, part by part, and its room: named-room, other-below, text-large, what-length
 pub mod Said

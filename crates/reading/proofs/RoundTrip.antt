@@ -3,7 +3,7 @@
 use mathlib.Core.Path.{_≡_, refl, sym, ap, _∙_}
 use mathlib.Core.Bool.{false}
 use mathlib.Core.List.{List, [], _∷_, _++_, map, append-assoc, append-nil}
-use mathlib.Core.Option.{Option, some, none}
+use mathlib.Core.Option.{none}
 use Prim.Native.Nat.{ℕ, zero, suc, _+_, _-_, _*_, _/_, _%_, _≤_, _<_}
 use native.Mathlib.Omega.{arith}
 use native.Mathlib.Decide.{decLt}
@@ -17,12 +17,12 @@ use Rattle.decimal.specs.Writing.{layout, linesText, sheetText, total}
 use Rattle.decimal.proofs.All.{AllOf, all-take, all-drop}
 use Rattle.decimal.proofs.Layouts.{Filled, layout-total, layout-filled}
 use Rattle.decimal.proofs.Rooms.{Words}
-use Rattle.reading.specs.Reading.{mostWords, next, Mode, between, within, Fault, Read, value, pending, outsideWord, inComment, flush}
+use Rattle.reading.specs.Reading.{mostWords, next, Mode, between, within, Read, value, pending, outsideWord, inComment, flush}
 use Rattle.reading.specs.Reading.{blank, full, lineByte, textByte, unlessFaulty, step, start, readOn, worded, ended, readWords}
 use Rattle.reading.specs.Bytes.{bytesOf}
-use Rattle.reading.specs.Said.{saidText, encodedBytes, encodedSaid}
+use Rattle.reading.specs.Said.{encodedBytes, encodedSaid}
 use Rattle.reading.proofs.Cases.{blank-last, digit-more, line-word, text-line, with-none, worded-words}
-use Rattle.reading.proofs.Texts.{read-append}
+use Rattle.reading.proofs.Texts.{read-append, encoded-bytes, encoded-quiet}
 
 -- these words, at this line and column, in this mode, and no fault
 abbrev reading : List ℕ → ℕ → ℕ → Mode → Read
@@ -132,9 +132,7 @@ module _ (ws : List ℕ) (some-words : 1 ≤ length ws) (few : length ws ≤ mos
   round-trip = (ap (λ (r : Read). r .words) (text-read .1), ap (λ (r : Read). r .fault) (text-read .1))
 
   pub round-encoded : (encodedBytes (sheetText ws) ≡ bytesOf ws) × (encodedSaid (sheetText ws) ≡ [])
-  unfolding encodedBytes encodedSaid
   round-encoded = (
-    ap (λ (o : Option Fault). elim o [ none ↦ bytesOf (readWords (sheetText ws) .words) | some f ↦ [] ]) (round-trip .1)
-        ∙ ap bytesOf (round-trip .0),
-    ap (λ (o : Option Fault). elim o [ none ↦ [] | some f ↦ saidText f ]) (round-trip .1),
+    sym (encoded-bytes (sheetText ws) (round-trip .1)) ∙ ap bytesOf (round-trip .0),
+    sym (encoded-quiet (sheetText ws) (round-trip .1)),
   )

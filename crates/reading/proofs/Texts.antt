@@ -45,23 +45,38 @@ feeds-all text i l F old xs H = holds-as (F old xs H) (ap (λ (ys : List ℕ). r
 
 -- THE END
 
-module _ (xs : List ℕ) {old new : List ℕ} {t : Reading} (H : Holds old (readWords xs) new t) where
-  -- no fault: the bytes, and nothing is said
-  module _ (z : t .fault ≡ 0) where
-    pub done-bytes : take (t .size) new ≡ encodedBytes xs
+module _ (xs : List ℕ) where
+  -- the bytes, and nothing is said; or no bytes, and the fault is told
+  module _ (e : readWords xs .fault ≡ none) where
+    pub encoded-bytes : bytesOf (readWords xs .words) ≡ encodedBytes xs
     unfolding encodedBytes
-    done-bytes = H .wrote .front ∙ ap (λ (o : Option Fault). elim o [ none ↦ bytesOf (readWords xs .words) | some f ↦ [] ]) (sym (held-none H z))
+    encoded-bytes = ap (λ (o : Option Fault). elim o [ none ↦ bytesOf (readWords xs .words) | some f ↦ [] ]) (sym e)
 
-    pub done-said : (said : List ℕ) → Wrote said 0 (encodedSaid xs) said 0
+    pub encoded-quiet : [] ≡ encodedSaid xs
     unfolding encodedSaid
-    done-said said = wrote-as (wrote-none said 0) (ap (λ (o : Option Fault). elim o [ none ↦ [] | some f ↦ saidText f ]) (sym (held-none H z)))
+    encoded-quiet = ap (λ (o : Option Fault). elim o [ none ↦ [] | some f ↦ saidText f ]) (sym e)
 
-  -- a fault: no bytes, and it is told
-  module _ (n : t .fault ≡ 0 → ⊥) where
-    pub told-bytes : take 0 new ≡ encodedBytes xs
+  module _ {f : Fault} (e : readWords xs .fault ≡ some f) where
+    encoded-nothing : [] ≡ encodedBytes xs
     unfolding encodedBytes
-    told-bytes = ap (λ (o : Option Fault). elim o [ none ↦ bytesOf (readWords xs .words) | some f ↦ [] ]) (sym (held-fault H n))
+    encoded-nothing = ap (λ (o : Option Fault). elim o [ none ↦ bytesOf (readWords xs .words) | some f ↦ [] ]) (sym e)
 
-    pub told-said : {said saying : List ℕ} {r : ℕ} → Wrote said 0 (saidText (faultAt t)) saying r → Wrote said 0 (encodedSaid xs) saying r
+    encoded-told : saidText f ≡ encodedSaid xs
     unfolding encodedSaid
-    told-said W = wrote-as W (ap (λ (o : Option Fault). elim o [ none ↦ [] | some f ↦ saidText f ]) (sym (held-fault H n)))
+    encoded-told = ap (λ (o : Option Fault). elim o [ none ↦ [] | some f ↦ saidText f ]) (sym e)
+
+  -- in the rows
+  module _ {old new : List ℕ} {t : Reading} (H : Holds old (readWords xs) new t) where
+    module _ (z : t .fault ≡ 0) where
+      pub done-bytes : take (t .size) new ≡ encodedBytes xs
+      done-bytes = H .wrote .front ∙ encoded-bytes (held-none H z)
+
+      pub done-said : (said : List ℕ) → Wrote said 0 (encodedSaid xs) said 0
+      done-said said = wrote-as (wrote-none said 0) (encoded-quiet (held-none H z))
+
+    module _ (n : t .fault ≡ 0 → ⊥) where
+      pub told-bytes : take 0 new ≡ encodedBytes xs
+      told-bytes = encoded-nothing (held-fault H n)
+
+      pub told-said : {said saying : List ℕ} {r : ℕ} → Wrote said 0 (saidText (faultAt t)) saying r → Wrote said 0 (encodedSaid xs) saying r
+      told-said W = wrote-as W (encoded-told (held-fault H n))

@@ -26,7 +26,8 @@ pub data Mode : Type 0 where
   within : ℕ → Mode
   comment : Mode
 
--- what stood where a fault is: a byte that is no digit; a digit with which a word has this value, above 65535; a word beyond the most; no word in all the text
+-- what stood where a fault is: a byte that is no digit; a digit with which a word has this value, above 65535; a word beyond the most; or there
+-- is no word in all the text
 pub data What : Type 0 where
   other : ℕ → What
   large : ℕ → What
