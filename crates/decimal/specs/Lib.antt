@@ -1,8 +1,2 @@
--- decimal words in a text: Mode, Read, step, readWords
-pub mod Reading
--- words as a file's bytes: bytesOf
-pub mod Bytes
 -- a row of words as lines of decimal words: layout, sheetText
 pub mod Writing
--- what the numbers of a reading hold: modeOf, Holds, Turns
-pub mod Held

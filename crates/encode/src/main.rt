@@ -1,31 +1,94 @@
-// The encode program: decimal words on standard input, the bytes of the sheet on standard output, or the line of a fault on standard error.
-// Rests on decimal, where the bytes are made.
-use decimal::TEXT_LIMIT;
-use decimal::encode;
+// The encode program: decimal words on standard input, the bytes of the sheet on standard output, or a fault in one line on standard error.
+// Rests on reading, which is fed with what comes and leaves both.
+ghost use mathlib.Core.Path.{_≡_};
+ghost use Prim.Native.Nat.{_≤_};
+ghost use lib.ListN.{length};
+ghost use Rattle.reading.specs.Held.{bytesSize, Able};
 use libc::STDERR_FILENO;
 use libc::STDIN_FILENO;
 use libc::STDOUT_FILENO;
+use reading::BYTES_SIZE;
+use reading::Reading;
+use reading::SAID_SIZE;
+use reading::begin;
+use reading::feed;
+use reading::finish;
 
-fn print_fault(line: usize) {
-    io::write_all(STDERR_FILENO, b"line ");
-    io::print_decimal(STDERR_FILENO, line as u64);
-    io::write_all(STDERR_FILENO, b": not a word from 0 to 65535\n");
+// How many bytes came, 0 at the end, or whether reading failed.
+struct Piece {
+    count: usize,
+    failed: bool,
+}
+
+// A text that was read to its end, or one that could not be.
+struct Text {
+    reading: Reading,
+    failed: bool,
+}
+
+// Reads as many bytes as come. A read that fails is said on standard error, with the reason.
+fn read_piece(space: &mut [u8]) -> Piece
+    ensures { λ r. ⌜ r .count ≤ length (now (space .exit)) ⌝ }
+{
+    let got = libc::read(STDIN_FILENO, space);
+    if got < 0 {
+        os::fail(b"standard input");
+        return Piece {
+            count: 0,
+            failed: true,
+        };
+    }
+    let n = io::count(got, space);
+    Piece {
+        count: n,
+        failed: false,
+    }
+}
+
+// Feeds the reading with standard input, piece by piece, to its end.
+fn read_text(out: &mut [u8]) -> Text
+    requires { ⌜ length (now out) ≡ bytesSize ⌝ }
+    ensures { λ r. ⌜ Able (r .reading) (now (out .exit)) ⌝ }
+{
+    let mut s = begin();
+    let mut space = io::large_buffer();
+    let mut turns = u64::MAX;
+    while turns > 0 {
+        let piece = read_piece(&mut space);
+        if piece.failed {
+            return Text {
+                reading: s,
+                failed: true,
+            };
+        }
+        let n = piece.count;
+        if n == 0 {
+            return Text {
+                reading: s,
+                failed: false,
+            };
+        }
+        s = feed(s, &space[..n], out);
+        turns -= 1;
+    }
+    Text {
+        reading: s,
+        failed: true,
+    }
 }
 
 fn main() {
-    let mut text = [0u8; TEXT_LIMIT + 1];
-    let n = io::read_full(STDIN_FILENO, &mut text);
-    if TEXT_LIMIT < n {
-        io::write_all(STDERR_FILENO, b"text longer than 262144 bytes\n");
+    let mut out = [0u8; BYTES_SIZE];
+    let text = read_text(&mut out);
+    if text.failed {
         return;
     }
-    let mut out = [0u8; TEXT_LIMIT + 1];
-    let r = encode(&text[..n], &mut out);
-    let fault = r.fault;
-    if fault != 0 {
-        print_fault(fault);
-        return;
-    }
+    let mut said = [0u8; SAID_SIZE];
+    let r = finish(text.reading, &mut out, &mut said);
+    let n = r.said;
+    io::write_all(STDERR_FILENO, &said[..n]);
     let size = r.size;
-    io::write_all(STDOUT_FILENO, &out[..size]);
+    if !io::write_all(STDOUT_FILENO, &out[..size]) {
+        os::fail(b"standard output");
+    }
 }

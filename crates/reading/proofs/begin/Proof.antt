@@ -1,0 +1,28 @@
+-- Nothing is written, nothing was read.
+-- Rests on digits Due, Modes.
+use mathlib.Core.Path.{refl}
+use native.Mathlib.Omega.{arith}
+use Rattle.base.specs.Lists.{each}
+use Rattle.digits.proofs.Due.{wrote-none}
+use Rattle.reading.specs.Reading.{start}
+use Rattle.reading.specs.Bytes.{bytesOf}
+use Rattle.reading.proofs.Modes.{mode-between, fault-none}
+use Rattle.reading.proofs.begin.Statement.{statement}
+use Rattle.reading.proofs.begin.Tie as tie
+
+returns : tie.Need-returns
+unfolding start bytesOf each
+returns c = (
+  λ row l. record {
+    all = l;
+    inside = omega arith;
+    room = λ k. absurd (omega arith);
+    small-line = omega arith;
+    small-column = omega arith;
+    small-found = omega arith;
+  },
+  λ row. record { wrote = wrote-none row 0; is-line = refl; is-column = refl; is-mode = mode-between; is-fault = fault-none _ refl },
+)
+
+pub begin-spec : {M : Type 1} → statement M
+begin-spec = tie.close (tie.spec returns)
