@@ -7,15 +7,15 @@ ghost use lib.ListN.{length};
 ghost use Rattle.formats.specs.Limits.{mostBlocks, mostSheets};
 ghost use Rattle.file_words.specs.Longer.{longerFile};
 ghost use Rattle.catalogue.specs.Standing.{Ready};
-ghost use Rattle.stream.specs.Feeding.{Able};
+ghost use Rattle.framing.specs.Feeding.{Able};
 use catalogue::MARKS;
 use file_words::LONGER_FILE;
+use framing::Progress;
+use framing::begin;
 use input::read_piece;
 use libc::STDOUT_FILENO;
 use stream::LAST_SIZE;
 use stream::LINES_SIZE;
-use stream::Progress;
-use stream::begin;
 use stream::feed;
 use stream::finish;
 

@@ -1,5 +1,5 @@
 -- Byte by byte through some bytes.
--- Rests on kept More, specs Came and Feeding.
+-- Rests on kept More, framing Came and Feeding.
 use mathlib.Core.Path.{_≡_, refl, sym, ap, subst, _∙_}
 use mathlib.Core.List.{List, [], _∷_, _++_, append-nil}
 use Prim.Native.Nat.{ℕ, _+_, _-_, _≤_, _<_}
@@ -7,10 +7,10 @@ use native.Mathlib.Omega.{arith}
 use lib.ListN.{length, getD, take, drop}
 use lib.Seq.{take-all, drop-drop}
 use Rattle.kept.proofs.More.{bytes-next}
-use Rattle.stream.specs.declared.Progress.{Progress}
-use Rattle.stream.specs.declared.Handed.{Handed}
-use Rattle.stream.specs.Came.{Came}
-use Rattle.stream.specs.Feeding.{Handing, Turns}
+use Rattle.framing.specs.declared.Progress.{Progress}
+use Rattle.framing.specs.declared.Handed.{Handed}
+use Rattle.framing.specs.Came.{Came}
+use Rattle.framing.specs.Feeding.{Handing, Turns}
 
 -- before the first
 pub handing-none : {xs said text row marks : List ℕ} {p : Progress} (bytes : List ℕ) → Came xs said p row marks

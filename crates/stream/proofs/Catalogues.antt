@@ -1,5 +1,5 @@
 -- The sheets of a catalogue by its bytes: whole ones, each behind its length, and then the rest.
--- Rests on base Lists, formats Catalogue and File, file_words Filled and Pairs, specs Came.
+-- Rests on base Lists, formats Catalogue and File, file_words Filled and Pairs, framing Came.
 use mathlib.Core.Path.{_≡_, refl, sym, ap, _∙_}
 use mathlib.Core.List.{List, [], _∷_, _++_, map, append-assoc, append-nil}
 use mathlib.Core.Option.{Option, some, none}
@@ -13,7 +13,7 @@ use Rattle.formats.specs.File.{wordsOf}
 use Rattle.formats.specs.Catalogue.{sheetsUpTo}
 use Rattle.file_words.proofs.Filled.{words-length}
 use Rattle.file_words.proofs.Pairs.{words-more, words-append}
-use Rattle.stream.specs.Came.{Whole, none as no-sheets, more}
+use Rattle.framing.specs.Came.{Whole, none as no-sheets, more}
 
 -- the sheets of whole bodies
 abbrev pub sheetsOf : List (List ℕ) → List (Option (List ℕ))

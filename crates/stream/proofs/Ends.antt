@@ -1,5 +1,5 @@
 -- The end of the input: all sheets are the whole ones and, where a length and fewer bytes are the rest, one that is cut.
--- Rests on base Truth, formats Limits, File, Catalogue and Report, calls Report, digits Wrote, catalogue Standing and Whole, specs Came and Feeding, Steps, Catalogues.
+-- Rests on base Truth, formats Limits, File, Catalogue and Report, calls Report, digits Wrote, catalogue Standing and Whole, framing Came, Feeding and Steps, Ending, Catalogues.
 use mathlib.Core.Path.{_≡_, refl, sym, ap, subst, _∙_}
 use mathlib.Core.Bool.{true, false}
 use mathlib.Core.List.{List, [], _∷_, _++_, map, append-assoc, append-nil}
@@ -20,12 +20,13 @@ use Rattle.tally.specs.declared.Tally.{Tally}
 use Rattle.catalogue.specs.Standing.{Standing, beyond}
 use Rattle.catalogue.specs.Parts.{closingPart}
 use Rattle.catalogue.proofs.Whole.{by-parts}
-use Rattle.stream.specs.declared.Progress.{Progress}
-use Rattle.stream.specs.declared.Ended.{Ended}
-use Rattle.stream.specs.Came.{figuresOf, Sheets, Rest, between, half, within, Came}
-use Rattle.stream.specs.Feeding.{allFigures, Line, Listed}
+use Rattle.framing.specs.declared.Progress.{Progress}
+use Rattle.framing.specs.declared.Ended.{Ended}
+use Rattle.framing.specs.Came.{figuresOf, Sheets, Rest, between, half, within, Came}
+use Rattle.framing.specs.Feeding.{Line}
+use Rattle.stream.specs.Ending.{allFigures, Listed}
 use Rattle.stream.proofs.Catalogues.{sheetsOf, cut-sheet, no-sheet, half-sheet, whole-sheets}
-use Rattle.stream.proofs.Steps.{line-behind}
+use Rattle.framing.proofs.Steps.{line-behind}
 
 figures-of : (bodies : List (List ℕ)) (os : List (Option (List ℕ))) → map figures (sheetsOf bodies ++ os) ≡ figuresOf bodies ++ map figures os
 figures-of [] os = refl

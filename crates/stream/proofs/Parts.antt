@@ -1,5 +1,5 @@
 -- Parts that are written one behind the other, each into a part of the row.
--- Rests on base Lists, digits Wrote and Due, Rows.
+-- Rests on base Lists, digits Wrote and Due.
 use mathlib.Core.Path.{_≡_, refl, sym, ap, _∙_}
 use mathlib.Core.List.{List, [], _++_, append-assoc, append-nil}
 use Prim.Native.Nat.{ℕ, zero, suc, _+_, _≤_}

@@ -1,15 +1,15 @@
 -- FOR EVERY WAY OF CUTTING A CATALOGUE into pieces: what `feed` hands back for each and what `finish` hands back then, put together, is the
--- report of all its bytes; and where no sheet may come any more, whatever would come after is not missed. Rests on calls Report, specs, Ends.
+-- report of all its bytes; and where no sheet may come any more, whatever would come after is not missed. Rests on calls Report, framing, Ending, Ends.
 use mathlib.Core.Path.{_≡_}
 use mathlib.Core.Bool.{false}
 use mathlib.Core.List.{List, [], _++_}
 use Prim.Native.Nat.{ℕ}
 use lib.ListN.{take}
 use Rattle.calls.specs.Report.{report}
-use Rattle.stream.specs.declared.Progress.{Progress}
-use Rattle.stream.specs.declared.Handed.{Handed}
-use Rattle.stream.specs.Came.{Came}
-use Rattle.stream.specs.Feeding.{Feeds, Finishes}
+use Rattle.framing.specs.declared.Progress.{Progress}
+use Rattle.framing.specs.declared.Handed.{Handed}
+use Rattle.framing.specs.Came.{Came}
+use Rattle.stream.specs.Ending.{Feeds, Finishes}
 use Rattle.stream.proofs.Ends.{ignored-rest}
 
 -- the pieces were given, first to last, each with the state and the rows as the last call left them: xs are all of them, said what was handed back

@@ -1,4 +1,2 @@
--- the bytes of a catalogue that came so far: Whole, Sheets, Rest, Came
-pub mod Came
--- what feeding and ending promise: Able, Room, Line, Feeds, Ends
-pub mod Feeding
+-- what feeding and ending promise: lastRoom, allFigures, Feeds, Listed, Lists, Finishes
+pub mod Ending

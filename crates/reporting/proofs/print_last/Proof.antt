@@ -7,7 +7,7 @@ use native.Mathlib.Nat.{le-of-eq}
 use native.Mathlib.Omega.{arith}
 use lib.ListN.{length, replicate, length-replicate}
 use lib.Seq.{length-take-le}
-use Rattle.stream.specs.Feeding.{lastRoom}
+use Rattle.stream.specs.Ending.{lastRoom}
 use borrow.Author.Needs.{needs}
 use Rattle.reporting.proofs.print_last.Statement.{statement}
 use Rattle.reporting.proofs.print_last.Tie as tie

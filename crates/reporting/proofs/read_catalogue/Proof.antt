@@ -1,10 +1,10 @@
 -- The state and the rows stay able; the measure is the turns left.
--- Rests on stream `begin` and `feed`, specs Feeding.
+-- Rests on framing `begin` and Feeding.
 use borrow.Author.Needs.{needs}
 use mathlib.Core.Path.{_≡_, refl, _∙_}
 use native.Mathlib.Omega.{arith}
 use lib.ListN.{length}
-use Rattle.stream.specs.Feeding.{Able}
+use Rattle.framing.specs.Feeding.{Able}
 use Rattle.reporting.proofs.read_catalogue.Statement.{statement}
 use Rattle.reporting.proofs.read_catalogue.Tie as tie
 

@@ -6,8 +6,8 @@ use mathlib.Core.List.{List, _++_}
 use Prim.Native.Nat.{ℕ, _-_, _≤_}
 use native.Mathlib.Omega.{arith}
 use lib.ListN.{length, take}
-use Rattle.stream.specs.Came.{Came}
-use Rattle.stream.specs.Feeding.{Able, Room, Handing}
+use Rattle.framing.specs.Came.{Came}
+use Rattle.framing.specs.Feeding.{Able, Room, Handing}
 use Rattle.stream.proofs.Bytes.{handing-none, handing-next, handing-all}
 use Rattle.stream.proofs.feed.Statement.{statement}
 use Rattle.stream.proofs.feed.Tie as tie
@@ -17,7 +17,7 @@ Inv-loop bytes row₀ marks₀ text₀ p₀ at₀ i₀ row marks text p at i =
     (i ≤ length bytes) × (length row ≡ length row₀) × (length marks ≡ length marks₀) × (length text ≡ length text₀) × Able p row marks
     × Room (p .tally) at text
     × ((xs said : List ℕ) → Came xs said p₀ row₀ marks₀
-        → Handing (xs ++ take i bytes) said text₀ 0 (record { progress = p; size = at }) row marks text)
+    → Handing (xs ++ take i bytes) said text₀ 0 (record { progress = p; size = at }) row marks text)
 
 abbrev μ-loop : tie.MeasureT-loop
 μ-loop bytes row₀ marks₀ text₀ p₀ at₀ i₀ row marks text p at i = length bytes - i

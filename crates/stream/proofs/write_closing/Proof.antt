@@ -1,5 +1,5 @@
 -- The parts before k are written; the measure is the parts left.
--- Rests on catalogue `closing_part`, Rows, Parts.
+-- Rests on catalogue `closing_part`, framing Rows, Parts.
 use borrow.Author.Needs.{needs}
 use borrow.Rule.Slice.PartMut.{same-len-mid}
 use mathlib.Core.Path.{_≡_, refl, _∙_}
@@ -14,7 +14,7 @@ use Rattle.digits.specs.Wrote.{Wrote}
 use Rattle.unused_lines.specs.Room.{unusedRoom}
 use Rattle.catalogue.specs.Standing.{Standing}
 use Rattle.catalogue.specs.Parts.{closingPart}
-use Rattle.stream.proofs.Rows.{wrote-part}
+use Rattle.framing.proofs.Rows.{wrote-part}
 use Rattle.stream.proofs.Parts.{parts-none, parts-next, parts-all}
 use Rattle.stream.proofs.write_closing.Statement.{statement}
 use Rattle.stream.proofs.write_closing.Tie as tie

@@ -4,10 +4,10 @@ use borrow.Author.Needs.{needs}
 use mathlib.Core.Path.{refl}
 use native.Mathlib.Omega.{arith}
 use Rattle.catalogue.proofs.Stands.{stands-first}
-use Rattle.stream.proofs.Steps.{came-first}
+use Rattle.framing.proofs.Steps.{came-first}
 use borrow.Author.Needs.{needs}
-use Rattle.stream.proofs.begin.Statement.{statement}
-use Rattle.stream.proofs.begin.Tie as tie
+use Rattle.framing.proofs.begin.Statement.{statement}
+use Rattle.framing.proofs.begin.Tie as tie
 
 returns : tie.Need-returns
 returns c =

@@ -1,10 +1,10 @@
 -- By how far the catalogue came.
 -- Rests on Turns.
 use borrow.Author.Needs.{needs}
-use Rattle.stream.proofs.Turns.{silent, first-byte}
+use Rattle.framing.proofs.Turns.{silent, first-byte}
 use borrow.Author.Needs.{needs}
-use Rattle.stream.proofs.next_byte.Statement.{statement}
-use Rattle.stream.proofs.next_byte.Tie as tie
+use Rattle.framing.proofs.next_byte.Statement.{statement}
+use Rattle.framing.proofs.next_byte.Tie as tie
 
 returns : tie.Need-returns
 returns c =
@@ -15,10 +15,15 @@ returns c =
     )
 
 returns-2 : tie.Need-returns-2
-returns-2 c = let l = c .before .before .before .before .length-byte in (l .ensures .0, λ m. l .ensures .1 m (c .before .before .before .before .before .before .before .before .if2 .taken))
+returns-2 c =
+    let l = c .before .before .before .before in
+    (l .length-byte .ensures .0, λ m. l .length-byte .ensures .1 m (l .before .before .before .before .if2 .taken))
 
 returns-3 : tie.Need-returns-3
-returns-3 c = let l = c .before .before .before .before .before .before .sheet-byte in (l .ensures .0, λ m. l .ensures .1 m (c .before .before .before .before .before .before .before .before .before .before .before .before .if1 .left) (c .before .before .before .before .before .before .before .before .before .before .if2 .left))
+returns-3 c =
+    let l = c .before .before .before .before .before .before in
+    let i = l .before .before .before .before in
+    (l .sheet-byte .ensures .0, λ m. l .sheet-byte .ensures .1 m (i .before .before .if1 .left) (i .if2 .left))
 
 pub next-byte-spec : {M : Type 1} → statement M
 next-byte-spec =

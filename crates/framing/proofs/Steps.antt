@@ -18,11 +18,11 @@ use Rattle.file_words.specs.Longer.{longerFile}
 use Rattle.tally.specs.declared.Tally.{Tally}
 use Rattle.catalogue.specs.Standing.{Standing, whole}
 use Rattle.catalogue.proofs.More.{lines-more}
-use Rattle.stream.specs.declared.Progress.{Progress}
-use Rattle.stream.specs.declared.Handed.{Handed}
-use Rattle.stream.specs.declared.Ended.{Ended}
-use Rattle.stream.specs.Came.{Whole, none, more, figuresOf, Sheets, Rest, between, half, within, Came}
-use Rattle.stream.specs.Feeding.{Line, Closes, Handing}
+use Rattle.framing.specs.declared.Progress.{Progress}
+use Rattle.framing.specs.declared.Handed.{Handed}
+use Rattle.framing.specs.declared.Ended.{Ended}
+use Rattle.framing.specs.Came.{Whole, none, more, figuresOf, Sheets, Rest, between, half, within, Came}
+use Rattle.framing.specs.Feeding.{Line, Closes, Handing}
 
 figures-more : (bodies : List (List ℕ)) (body : List ℕ)
     → figuresOf (bodies ++ (body ∷ [])) ≡ figuresOf bodies ++ (figures (some (wordsOf body)) ∷ [])

@@ -7,10 +7,10 @@ use native.Mathlib.Omega.{arith}
 use lib.ListN.{length}
 use Rattle.base.proofs.Lists.{part-length}
 use Rattle.report_lines.specs.Lines.{lineRoom}
-use Rattle.stream.proofs.Rows.{wrote-part}
+use Rattle.framing.proofs.Rows.{wrote-part}
 use borrow.Author.Needs.{needs}
-use Rattle.stream.proofs.next_line.Statement.{statement}
-use Rattle.stream.proofs.next_line.Tie as tie
+use Rattle.framing.proofs.next_line.Statement.{statement}
+use Rattle.framing.proofs.next_line.Tie as tie
 
 returns : tie.Need-returns
 returns c =

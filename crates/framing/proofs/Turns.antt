@@ -10,11 +10,11 @@ use lib.Seq.{take-nil}
 use Rattle.base.proofs.Truth.{not-both}
 use Rattle.formats.specs.Limits.{mostSheets}
 use Rattle.file_words.specs.Longer.{longerFile}
-use Rattle.stream.specs.declared.Progress.{Progress}
-use Rattle.stream.specs.declared.Handed.{Handed}
-use Rattle.stream.specs.Came.{Sheets, Rest, between, half, within, Came}
-use Rattle.stream.specs.Feeding.{Closes, Handing}
-use Rattle.stream.proofs.Steps.{closed}
+use Rattle.framing.specs.declared.Progress.{Progress}
+use Rattle.framing.specs.declared.Handed.{Handed}
+use Rattle.framing.specs.Came.{Sheets, Rest, between, half, within, Came}
+use Rattle.framing.specs.Feeding.{Closes, Handing}
+use Rattle.framing.proofs.Steps.{closed}
 
 -- nothing is handed back
 pub silent : {xs said text row marks : List ℕ} {at : ℕ} {p : Progress} → Came xs (said ++ take at text) p row marks

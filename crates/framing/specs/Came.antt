@@ -12,7 +12,7 @@ use Rattle.formats.specs.Report.{Figures, sheetLine, eachSheet}
 use Rattle.calls.specs.Report.{figures}
 use Rattle.tally.specs.declared.Tally.{Tally}
 use Rattle.catalogue.specs.Standing.{Standing}
-use Rattle.stream.specs.declared.Progress.{Progress}
+use Rattle.framing.specs.declared.Progress.{Progress}
 
 -- whole sheets, first to last: each is two bytes with its length in words, the lower byte first, and the two bytes of each of its words
 pub data Whole : List ℕ → List (List ℕ) → Type 0 where

@@ -6,8 +6,8 @@ use native.Mathlib.Omega.{arith}
 use borrow.Author.Tests.{ltb-true}
 use Rattle.formats.specs.Limits.{mostSheets}
 use borrow.Author.Needs.{needs}
-use Rattle.stream.proofs.whole_sheet.Statement.{statement}
-use Rattle.stream.proofs.whole_sheet.Tie as tie
+use Rattle.framing.proofs.whole_sheet.Statement.{statement}
+use Rattle.framing.proofs.whole_sheet.Tie as tie
 
 next-line-requires : tie.Need-next-line-requires
 next-line-requires c κs = let z = c .before .before .before .before .before in (z .pre .0, (z .pre .1 .0, omega (arith, z .pre .1 .1, z .pre .1 .0 .1)))

@@ -3,18 +3,19 @@
 use borrow.Author.Needs.{needs}
 use mathlib.Core.Path.{refl, sym, _∙_}
 use native.Mathlib.Omega.{arith}
-use Rattle.stream.proofs.Turns.{silent, second-byte, empty-sheet}
+use Rattle.framing.proofs.Turns.{silent, second-byte, empty-sheet}
 use borrow.Author.Needs.{needs}
-use Rattle.stream.proofs.length_byte.Statement.{statement}
-use Rattle.stream.proofs.length_byte.Tie as tie
+use Rattle.framing.proofs.length_byte.Statement.{statement}
+use Rattle.framing.proofs.length_byte.Tie as tie
 
 returns : tie.Need-returns
 returns c =
     let w = c .before .before .before .before .whole-sheet in
-    let j = c .before .before .before .before .before .before .before .before .before .before .joined in
-    let z = c .before .before .before .before .before .before .before .before .before .before .before .before .before .before in (
+    let i = c .before .before .before .before .before .before .before .before in
+    let j = i .before .before in
+    let z = j .before .before .before .before in (
       (w .ensures .0 .0 _ (z .pre .0 .0 .size), w .ensures .0 .1),
-      λ m h xs said H. empty-sheet H _ m (w .ensures .1) h (sym (j .ensures) ∙ c .before .before .before .before .before .before .before .before .if1 .taken) refl,
+      λ m h xs said H. empty-sheet H _ m (w .ensures .1) h (sym (j .joined .ensures) ∙ i .if1 .taken) refl,
     )
 
 returns-2 : tie.Need-returns-2
