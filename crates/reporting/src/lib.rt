@@ -8,16 +8,20 @@ ghost use Rattle.formats.specs.Limits.{mostBlocks, mostSheets};
 ghost use Rattle.file_words.specs.Longer.{longerFile};
 ghost use Rattle.catalogue.specs.Standing.{Ready};
 ghost use Rattle.framing.specs.Feeding.{Able};
+ghost use Rattle.stream.specs.Ending.{Closable};
 use catalogue::MARKS;
 use file_words::LONGER_FILE;
 use framing::Progress;
 use framing::begin;
 use input::read_piece;
 use libc::STDOUT_FILENO;
-use stream::LAST_SIZE;
+use report_lines::LINE_SIZE;
+use stream::Closing;
 use stream::LINES_SIZE;
 use stream::feed;
 use stream::finish;
+use stream::next_part;
+use unused_lines::UNUSED_SIZE;
 
 // How far a catalogue came, and whether a read or a write failed, which was said then.
 struct Reading {
@@ -83,13 +87,34 @@ fn read_catalogue(row: &mut [u8], marks: &mut [u8]) -> Reading
     }
 }
 
+// Writes the closing parts.
+fn print_parts(first: Closing, marks: &[u8])
+    requires { ⌜ Closable first (now marks) ⌝ }
+{
+    let mut text = [0u8; UNUSED_SIZE];
+    let mut c = first;
+    while c.more {
+        let p = next_part(c, marks, &mut text);
+        let size = p.size;
+        if !print(&text[..size]) {
+            return;
+        }
+        c = p.closing;
+    }
+}
+
 // Writes what is still to be printed.
 fn print_last(s: Progress, marks: &mut [u8])
     requires { ⌜ Ready (s .tally) (now marks) × (s .more ≡ true → s .tally .place < mostSheets) ⌝ }
 {
-    let mut text = [0u8; LAST_SIZE];
-    let size = finish(s, marks, &mut text);
-    print(&text[..size]);
+    let mut text = [0u8; LINE_SIZE];
+    let p = finish(s, marks, &mut text);
+    let size = p.size;
+    if !print(&text[..size]) {
+        return;
+    }
+    let c = p.closing;
+    print_parts(c, marks);
 }
 
 // The report of the catalogue on standard input.

@@ -1,11 +1,13 @@
 -- The end of the input: all sheets are the whole ones and, where a length and fewer bytes are the rest, one that is cut.
--- Rests on base Truth, formats Limits, File, Catalogue and Report, calls Report, digits Wrote, catalogue Standing and Whole, framing Came, Feeding and Steps, Ending, Catalogues.
+-- Rests on base Truth, formats Limits, File, Catalogue and Report, calls Report, digits Wrote, catalogue Standing and Whole, framing Came, Feeding and Steps, Ending, Catalogues, Parts.
 use mathlib.Core.Path.{_≡_, refl, sym, ap, subst, _∙_}
 use mathlib.Core.Bool.{true, false}
 use mathlib.Core.List.{List, [], _∷_, _++_, map, append-assoc, append-nil}
 use mathlib.Core.Option.{Option, some, none}
 use Prim.Native.Nat.{ℕ, zero, suc, _+_, _-_, _≤_, _<_}
 use native.Mathlib.Omega.{arith}
+use borrow.Author.Tests.{lt-ltb, ltb-false}
+use lib.Dec.{ltb}
 use lib.ListN.{length, take, drop}
 use Rattle.base.specs.Lists.{each, from}
 use Rattle.base.proofs.Truth.{not-both}
@@ -15,7 +17,6 @@ use Rattle.formats.specs.Catalogue.{sheets, sheetsUpTo}
 use Rattle.formats.specs.Report.{Figures, sheetLine, eachSheet, reportOf}
 use Rattle.calls.specs.Report.{figures, report}
 use Rattle.digits.specs.Wrote.{Wrote}
-use Rattle.digits.proofs.Due.{since}
 use Rattle.tally.specs.declared.Tally.{Tally}
 use Rattle.catalogue.specs.Standing.{Standing, beyond}
 use Rattle.catalogue.specs.Parts.{closingPart}
@@ -24,9 +25,11 @@ use Rattle.framing.specs.declared.Progress.{Progress}
 use Rattle.framing.specs.declared.Ended.{Ended}
 use Rattle.framing.specs.Came.{figuresOf, Sheets, Rest, between, half, within, Came}
 use Rattle.framing.specs.Feeding.{Line}
-use Rattle.stream.specs.Ending.{allFigures, Listed}
+use Rattle.stream.specs.declared.Closing.{Closing}
+use Rattle.stream.specs.Ending.{allFigures, Listed, Closed, Parting}
 use Rattle.stream.proofs.Catalogues.{sheetsOf, cut-sheet, no-sheet, half-sheet, whole-sheets}
 use Rattle.framing.proofs.Steps.{line-behind}
+use Rattle.stream.proofs.Parts.{parts-next}
 
 figures-of : (bodies : List (List ℕ)) (os : List (Option (List ℕ))) → map figures (sheetsOf bodies ++ os) ≡ figuresOf bodies ++ map figures os
 figures-of [] os = refl
@@ -99,22 +102,51 @@ module _ {xs said : List ℕ} {s : Progress} {row marks : List ℕ} (H : Came xs
         behind = W .behind;
       }
 
--- WITH THE CLOSING PARTS
+-- THE CLOSING PARTS
 
-pub whole-report : {xs said text mid after : List ℕ} {r : Ended} {marks : List ℕ} {n : ℕ} → Listed xs said text r marks mid
-    → Wrote mid (r .size) (each (closingPart (allFigures xs)) (from 0 (r .tally .place + 2))) after n
-    → (said ++ take n after ≡ report xs) × (drop n after ≡ drop n text)
-unfolding report
-whole-report {xs} {said} {text} {mid} {r = r} L W =
+pub closed-first : {xs said text mid : List ℕ} {r : Ended} {marks : List ℕ} → Listed xs said text r marks mid
+    → Parting xs said text (record { closing = record { tally = r .tally; next = 0; more = true }; size = r .size }) marks mid
+unfolding each from
+closed-first {xs} {r = r} L =
+    record {
+      closed = record {
+        stands = L .stands;
+        is-said = L .lines ∙ sym (append-nil (eachSheet sheetLine 1 (allFigures xs)));
+        few = omega arith;
+        more = sym (lt-ltb 0 (r .tally .place + 2) (omega arith));
+      };
+      behind = L .behind;
+    }
+
+pub closed-next : {xs said text after : List ℕ} {c : Closing} {marks : List ℕ} {size : ℕ} → Closed xs said c marks → c .next < c .tally .place + 2
+    → Wrote text 0 (closingPart (allFigures xs) (c .next)) after size
+    → Parting xs said text
+    (record { closing = record { tally = c .tally; next = c .next + 1; more = ltb (c .next + 1) (c .tally .place + 2) }; size = size }) marks after
+closed-next {xs} {said} {c = c} C l W =
     let fs = allFigures xs in
-    let k : r .tally .place + 2 ≡ suc (suc (length fs)) = omega (arith, L .stands .place) in
-    let parts = each (closingPart fs) (from 0 (r .tally .place + 2)) in (
-      ap (λ (w : List ℕ). said ++ w) (W .front) ∙ sym (append-assoc said (take (r .size) mid) parts)
-          ∙ ap (λ (w : List ℕ). w ++ parts) (L .lines)
-          ∙ ap (λ (j : ℕ). eachSheet sheetLine 1 fs ++ each (closingPart fs) (from 0 j)) k
-          ∙ sym (by-parts fs),
-      since text W (L .behind),
-    )
+    let f = closingPart fs in
+    let k = c .next in
+    let lines = eachSheet sheetLine 1 fs in
+    record {
+      closed = record {
+        stands = C .stands;
+        is-said =
+            ap (λ (w : List ℕ). said ++ w) (W .front) ∙ ap (λ (w : List ℕ). w ++ f k) (C .is-said)
+            ∙ append-assoc lines (each f (from 0 k)) (f k) ∙ ap (λ (w : List ℕ). lines ++ w) (parts-next f k);
+        few = omega (arith, l);
+        more = refl;
+      };
+      behind = W .behind;
+    }
+
+-- all of them: the report
+pub closed-report : {xs said : List ℕ} {c : Closing} {marks : List ℕ} → Closed xs said c marks → c .more ≡ false → said ≡ report xs
+unfolding report
+closed-report {xs} {c = c} C m =
+    let fs = allFigures xs in
+    let l = ltb-false (c .next) (c .tally .place + 2) (sym (C .more) ∙ m) in
+    let k : c .next ≡ suc (suc (length fs)) = omega (arith, C .few, C .stands .place, l) in
+    C .is-said ∙ ap (λ (j : ℕ). eachSheet sheetLine 1 fs ++ each (closingPart fs) (from 0 j)) k ∙ sym (by-parts fs)
 
 -- AFTER 200 SHEETS nothing that comes matters
 

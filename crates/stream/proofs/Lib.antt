@@ -1,10 +1,10 @@
 -- the sheets of a catalogue by its bytes: cut-sheet, no-sheet, half-sheet, whole-sheets
 pub mod Catalogues
--- the end of the input: full-figures, none-cut, one-cut, listed-none, listed-cut, whole-report, ignored-rest
+-- the end of the input: full-figures, none-cut, one-cut, listed-none, listed-cut, closed-first, closed-next, closed-report, ignored-rest
 pub mod Ends
 -- byte by byte: handing-none, handing-next, handing-all
 pub mod Bytes
--- parts one behind the other: parts-none, parts-next, parts-all
+-- one part more behind the first k: parts-next
 pub mod Parts
 -- FOR EVERY WAY OF CUTTING A CATALOGUE: pieces-reported, nothing-missed
 pub mod Pieces

@@ -1,5 +1,5 @@
--- FOR EVERY WAY OF CUTTING A CATALOGUE into pieces: what `feed` hands back for each and what `finish` hands back then, put together, is the
--- report of all its bytes; and where no sheet may come any more, whatever would come after is not missed. Rests on calls Report, framing, Ending, Ends.
+-- FOR EVERY WAY OF CUTTING A CATALOGUE into pieces: what `feed` hands back for each, `finish` then and each `next_part`, put together, is the report
+-- of all its bytes; and where no sheet may come any more, whatever would come after is not missed. Rests on calls Report, framing, Ending, Ends.
 use mathlib.Core.Path.{_≡_}
 use mathlib.Core.Bool.{false}
 use mathlib.Core.List.{List, [], _++_}
@@ -9,8 +9,10 @@ use Rattle.calls.specs.Report.{report}
 use Rattle.framing.specs.declared.Progress.{Progress}
 use Rattle.framing.specs.declared.Handed.{Handed}
 use Rattle.framing.specs.Came.{Came}
-use Rattle.stream.specs.Ending.{Feeds, Finishes}
-use Rattle.stream.proofs.Ends.{ignored-rest}
+use Rattle.stream.specs.declared.Closing.{Closing}
+use Rattle.stream.specs.declared.Part.{Part}
+use Rattle.stream.specs.Ending.{Feeds, Closed, Finishes, Parts}
+use Rattle.stream.proofs.Ends.{closed-report, ignored-rest}
 
 -- the pieces were given, first to last, each with the state and the rows as the last call left them: xs are all of them, said what was handed back
 pub data Fed : List ℕ → List ℕ → Progress → List ℕ → List ℕ → Type 0 where
@@ -25,9 +27,22 @@ fed-came : {xs said : List ℕ} {s : Progress} {row marks : List ℕ} → Fed xs
 fed-came (start {row = row} {marks = marks} f) = f row marks
 fed-came (more {xs = xs} {said = said} bytes text r row′ marks′ text′ F h) = h xs said (fed-came F) .came
 
-pub pieces-reported : {xs said : List ℕ} {s : Progress} {row marks : List ℕ} (text : List ℕ) (n : ℕ) (text′ : List ℕ) → Fed xs said s row marks
-    → Finishes s marks text n text′ → said ++ take n text′ ≡ report xs
-pieces-reported {xs} {said} {row = row} text n text′ F h = h xs said row (fed-came F) .0
+-- the input was over, and the closing parts were taken, first to last
+pub data Ended : List ℕ → List ℕ → Closing → List ℕ → Type 0 where
+  -- `finish`
+  over : {xs said : List ℕ} {s : Progress} {row marks : List ℕ} (text : List ℕ) (r : Part) (marks′ text′ : List ℕ) → Fed xs said s row marks
+      → Finishes s marks text r marks′ text′ → Ended xs (said ++ take (r .size) text′) (r .closing) marks′
+  -- `next_part`
+  part : {xs said : List ℕ} {c : Closing} {marks : List ℕ} (text : List ℕ) (r : Part) (text′ : List ℕ) → Ended xs said c marks
+      → Parts c marks text r text′ → Ended xs (said ++ take (r .size) text′) (r .closing) marks
+
+ended-closed : {xs said : List ℕ} {c : Closing} {marks : List ℕ} → Ended xs said c marks → Closed xs said c marks
+ended-closed (over {xs = xs} {said = said} {row = row} text r marks′ text′ F h) = h xs said row (fed-came F) .closed
+ended-closed (part {xs = xs} {said = said} text r text′ E h) = h xs said (ended-closed E) .closed
+
+-- until there is no next part
+pub pieces-reported : {xs said : List ℕ} {c : Closing} {marks : List ℕ} → Ended xs said c marks → c .more ≡ false → said ≡ report xs
+pieces-reported E m = closed-report (ended-closed E) m
 
 pub nothing-missed : {xs said : List ℕ} {s : Progress} {row marks : List ℕ} → Fed xs said s row marks → s .more ≡ false → (ys : List ℕ)
     → report (xs ++ ys) ≡ report xs

@@ -1,2 +1,2 @@
--- what feeding and ending promise: lastRoom, allFigures, Feeds, Listed, Lists, Finishes
+-- what feeding and ending promise: allFigures, Feeds, Listed, Lists, Closable, Closed, Parting, Finishes, Parts
 pub mod Ending

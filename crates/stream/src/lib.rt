@@ -2,19 +2,14 @@
 // Rests on framing and catalogue; for every way of cutting the input, what is handed back is its report (proofs Pieces).
 ghost use mathlib.Core.Path.{_≡_};
 ghost use mathlib.Core.Bool.{true};
-ghost use mathlib.Core.List.{List};
-ghost use Prim.Native.Nat.{_+_, _*_, _≤_, _<_};
+ghost use Prim.Native.Nat.{suc, _*_, _≤_, _<_};
 ghost use lib.ListN.{length};
-ghost use Rattle.base.specs.Lists.{each, from};
 ghost use Rattle.formats.specs.Limits.{mostSheets};
-ghost use Rattle.formats.specs.Report.{Figures};
-ghost use Rattle.digits.specs.Wrote.{Wrote};
 ghost use Rattle.report_lines.specs.Lines.{lineRoom};
 ghost use Rattle.unused_lines.specs.Room.{unusedRoom};
-ghost use Rattle.catalogue.specs.Standing.{Ready, Standing};
-ghost use Rattle.catalogue.specs.Parts.{closingPart};
+ghost use Rattle.catalogue.specs.Standing.{Ready};
 ghost use Rattle.framing.specs.Feeding.{Able};
-ghost use Rattle.stream.specs.Ending.{lastRoom, Feeds, Lists, Finishes};
+ghost use Rattle.stream.specs.Ending.{Feeds, Lists, Closable, Finishes, Parts};
 use catalogue::MOST_SHEETS;
 use catalogue::closing_part;
 use framing::Ended;
@@ -25,12 +20,22 @@ use framing::feed_byte;
 use framing::next_line;
 use report_lines::LINE_SIZE;
 use tally::Tally;
-use unused_lines::UNUSED_SIZE;
 
-// The room of the lines of all sheets, and of what is written at the end.
+// The room of the lines of all sheets.
 pub const LINES_SIZE: usize = MOST_SHEETS * LINE_SIZE;
 
-pub const LAST_SIZE: usize = LINE_SIZE + (MOST_SHEETS + 2) * UNUSED_SIZE;
+// The sheets, the closing part that comes next, and whether there is one.
+pub struct Closing {
+    pub tally: Tally,
+    pub next: usize,
+    pub more: bool,
+}
+
+// What is still to be written, and the length of the text that is handed back.
+pub struct Part {
+    pub closing: Closing,
+    pub size: usize,
+}
 
 // The next bytes, however many: the lines of the sheets that they make whole stand in the front of the text.
 pub fn feed(s: Progress, bytes: &[u8], row: &mut [u8], marks: &mut [u8], text: &mut [u8]) -> Handed
@@ -90,33 +95,44 @@ fn last_line(s: Progress, marks: &mut [u8], text: &mut [u8]) -> Ended
     }
 }
 
-// The closing parts, one behind the other.
-fn write_closing(tally: Tally, marks: &[u8], text: &mut [u8], at: usize) -> usize
-    requires { ⌜ Ready tally (now marks) ⌝ }
-    requires { ⌜ at + (mostSheets + 2) * unusedRoom ≤ length (now text) ⌝ }
-    ensures { λ r. ⌜ r ≤ length (now (text .exit)) ⌝ }
-    ensures { λ r. ⌜ ((fs : List Figures) → Standing fs tally (now (marks .entry))
-        → Wrote (now (text .entry)) at (each (closingPart fs) (from 0 (tally .place + 2))) (now (text .exit)) r) ⌝ }
-{
-    let mut p = at;
-    let mut k = 0;
-    while k < tally.place + 2 {
-        let end = p + UNUSED_SIZE;
-        let n = closing_part(k, tally, marks, &mut text[p..end]);
-        p += n;
-        k += 1;
-    }
-    p
-}
-
-// The input is over: what is still to be printed stands in the front of the text.
-pub fn finish(s: Progress, marks: &mut [u8], text: &mut [u8]) -> usize
+// The input is over: what is still to be printed of the sheets stands in the front of the text.
+pub fn finish(s: Progress, marks: &mut [u8], text: &mut [u8]) -> Part
     requires { ⌜ Ready (s .tally) (now marks) × (s .more ≡ true → s .tally .place < mostSheets) ⌝ }
-    requires { ⌜ lastRoom ≤ length (now text) ⌝ }
-    ensures { λ r. ⌜ r ≤ length (now (text .exit)) ⌝ }
-    ensures { λ r. ⌜ Finishes s (now (marks .entry)) (now (text .entry)) r (now (text .exit)) ⌝ }
+    requires { ⌜ lineRoom ≤ length (now text) ⌝ }
+    ensures { λ r. ⌜ Closable (r .closing) (now (marks .exit)) × (r .size ≤ length (now (text .exit))) ⌝ }
+    ensures { λ r. ⌜ Finishes s (now (marks .entry)) (now (text .entry)) r (now (marks .exit)) (now (text .exit)) ⌝ }
 {
     let e = last_line(s, marks, text);
     let tally = e.tally;
-    write_closing(tally, marks, text, e.size)
+    let c = Closing {
+        tally: tally,
+        next: 0,
+        more: true,
+    };
+    Part {
+        closing: c,
+        size: e.size,
+    }
+}
+
+// The next closing part.
+pub fn next_part(c: Closing, marks: &[u8], text: &mut [u8]) -> Part
+    requires { ⌜ Closable c (now marks) × (c .more ≡ true) ⌝ }
+    requires { ⌜ unusedRoom ≤ length (now text) ⌝ }
+    ensures { λ r. ⌜ Closable (r .closing) (now (marks .entry)) × (r .size ≤ length (now (text .exit))) ⌝ }
+    ensures { λ r. ⌜ (r .closing .next ≡ suc (c .next)) × (r .closing .tally ≡ c .tally) ⌝ }
+    ensures { λ r. ⌜ Parts c (now (marks .entry)) (now (text .entry)) r (now (text .exit)) ⌝ }
+{
+    let tally = c.tally;
+    let size = closing_part(c.next, tally, marks, text);
+    let next = c.next + 1;
+    let n = Closing {
+        tally: tally,
+        next: next,
+        more: next < tally.place + 2,
+    };
+    Part {
+        closing: n,
+        size: size,
+    }
 }
