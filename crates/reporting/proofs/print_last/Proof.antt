@@ -1,22 +1,16 @@
 -- What is handed back stands in the front of the text.
--- Rests on stream `finish`.
+-- Rests on base Lists, stream `finish`.
 use borrow.Author.Needs.{needs}
-use mathlib.Core.Path.{_≡_, sym, ap, _∙_}
-use Prim.Native.Nat.{ℕ, _≤_}
-use native.Mathlib.Nat.{le-of-eq}
+use mathlib.Core.Path.{sym}
 use native.Mathlib.Omega.{arith}
-use lib.ListN.{length, replicate, length-replicate}
 use lib.Seq.{length-take-le}
+use Rattle.base.proofs.Lists.{zeros-room}
 use Rattle.stream.specs.Feeding.{lastRoom}
-use borrow.Author.Needs.{needs}
 use Rattle.reporting.proofs.print_last.Statement.{statement}
 use Rattle.reporting.proofs.print_last.Tie as tie
 
-zeros-room : (n : ℕ) → n ≤ length (replicate {A = ℕ} n 0)
-zeros-room n = le-of-eq (sym (length-replicate n 0))
-
 finish-requires : tie.Need-finish-requires
-finish-requires c κs = (c .before .before .before .pre, zeros-room lastRoom)
+finish-requires c κs = (c .before .before .before .pre, zeros-room lastRoom lastRoom (omega arith))
 
 slice-aggregate-print : tie.Need-slice-aggregate-print
 slice-aggregate-print c = sym (length-take-le _ _ (c .before .before .before .before .finish .ensures .0))
