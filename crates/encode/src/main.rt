@@ -3,16 +3,17 @@
 ghost use mathlib.Core.Path.{_≡_};
 ghost use Prim.Native.Nat.{_≤_};
 ghost use lib.ListN.{length};
-ghost use Rattle.reading.specs.Held.{bytesSize, Able};
+ghost use Rattle.word_bytes.specs.Modes.{bytesSize};
+ghost use Rattle.word_reading.specs.Held.{Able};
+use fault_line::SAID_SIZE;
 use libc::STDERR_FILENO;
 use libc::STDIN_FILENO;
 use libc::STDOUT_FILENO;
-use reading::BYTES_SIZE;
-use reading::Reading;
-use reading::SAID_SIZE;
 use reading::begin;
 use reading::feed;
 use reading::finish;
+use word_bytes::BYTES_SIZE;
+use word_reading::Reading;
 
 // How many bytes came, 0 at the end, or whether reading failed.
 struct Piece {

@@ -5,7 +5,7 @@ use mathlib.Core.Path.{_≡_, refl, sym, _∙_}
 use native.Mathlib.Omega.{arith}
 use lib.ListN.{length}
 use lib.Seq.{length-take-le}
-use Rattle.reading.specs.Held.{Able}
+use Rattle.word_reading.specs.Held.{Able}
 use Rattle.encode.proofs.read_text.Statement.{statement}
 use Rattle.encode.proofs.read_text.Tie as tie
 
