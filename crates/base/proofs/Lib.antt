@@ -1,6 +1,6 @@
 -- tests: and-i, and-e, or-e, any-i, any-e, all-e, ..
 pub mod Truth
--- members, choices, numbers in a row
+-- members, choices, numbers in a row, the room of a row of zeros
 pub mod Lists
 -- the order of copies, and their places in a rising list
 pub mod Copies

@@ -11,7 +11,7 @@ use native.Mathlib.Omega.{arith}
 use native.Mathlib.Decide.{ℕ-discrete}
 use borrow.Author.Tests.{eqb-true, eq-eqb}
 use lib.Dec.{eqb}
-use lib.ListN.{length, take, drop, length-drop}
+use lib.ListN.{length, take, drop, replicate, length-drop, length-replicate}
 use lib.Seq.{length-take-le}
 use Rattle.base.specs.Lists.{each, keep, chosen, from, member}
 use Rattle.base.proofs.Truth.{not-both, any-i, any-e}
@@ -246,3 +246,7 @@ pub part-length : {A : Type 0} (a k : ℕ) (xs : List A) → a + k ≤ length xs
 part-length a k xs l =
     let q : a + k - a ≡ k = omega arith in
     length-take-le (a + k - a) (drop a xs) (omega (arith, length-drop a xs)) ∙ q
+
+-- a row of zeros has room
+pub zeros-room : (n m : ℕ) → m ≤ n → m ≤ length (replicate {A = ℕ} n 0)
+zeros-room n m l = subst (λ (x : ℕ). m ≤ x) (sym (length-replicate {A = ℕ} n 0)) l

@@ -8,5 +8,3 @@ pub mod Layouts
 pub mod Rooms
 -- sample rows, by computing: written-as
 pub mod Samples
--- for the programs, the length of a row of zeros: zeros-room
-pub mod Parts

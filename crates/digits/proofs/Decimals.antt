@@ -73,3 +73,9 @@ digits-6 n l = length-more 5 n (λ _. digits-5 (n / 10) (omega arith)) (omega ar
 
 pub digits-7 : (n : ℕ) → n < 10000000 → length (decimal n) ≤ 7
 digits-7 n l = length-more 6 n (λ _. digits-6 (n / 10) (omega arith)) (omega arith)
+
+digits-8 : (n : ℕ) → n < 100000000 → length (decimal n) ≤ 8
+digits-8 n l = length-more 7 n (λ _. digits-7 (n / 10) (omega arith)) (omega arith)
+
+pub digits-9 : (n : ℕ) → n < 1000000000 → length (decimal n) ≤ 9
+digits-9 n l = length-more 8 n (λ _. digits-8 (n / 10) (omega arith)) (omega arith)

@@ -8,7 +8,7 @@ use native.Mathlib.Omega.{arith}
 use lib.ListN.{length, length-append}
 use Rattle.base.specs.Lists.{each}
 use Rattle.digits.specs.Spaced.{spaced}
-use Rattle.digits.proofs.Decimals.{digits-3, digits-4, digits-5, digits-7}
+use Rattle.digits.proofs.Decimals.{digits-3, digits-4, digits-5, digits-7, digits-9}
 
 pub spaced-3 : (n : ℕ) → n < 1000 → length (spaced n) ≤ 4
 unfolding spaced
@@ -25,6 +25,10 @@ spaced-5 n l = omega (arith, digits-5 n l)
 pub spaced-7 : (n : ℕ) → n < 10000000 → length (spaced n) ≤ 8
 unfolding spaced
 spaced-7 n l = omega (arith, digits-7 n l)
+
+pub spaced-9 : (n : ℕ) → n < 1000000000 → length (spaced n) ≤ 10
+unfolding spaced
+spaced-9 n l = omega (arith, digits-9 n l)
 
 -- the parts that f gives, each of at most k bytes
 pub each-room : (f : ℕ → List ℕ) (k : ℕ) (xs : List ℕ) → ((x : ℕ) → List·Memᴰ x xs → length (f x) ≤ k) → length (each f xs) ≤ k * length xs

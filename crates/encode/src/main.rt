@@ -1,48 +1,23 @@
 // The encode program: decimal words on standard input, the bytes of the sheet on standard output, or a fault in one line on standard error.
-// Rests on reading, which is fed with what comes and leaves both.
+// Rests on input, and on reading, which is fed with what comes and leaves both.
 ghost use mathlib.Core.Path.{_≡_};
-ghost use Prim.Native.Nat.{_≤_};
 ghost use lib.ListN.{length};
-ghost use Rattle.reading.specs.Held.{bytesSize, Able};
+ghost use Rattle.word_bytes.specs.Modes.{bytesSize};
+ghost use Rattle.word_reading.specs.Held.{Able};
+use fault_line::SAID_SIZE;
+use input::read_piece;
 use libc::STDERR_FILENO;
-use libc::STDIN_FILENO;
 use libc::STDOUT_FILENO;
-use reading::BYTES_SIZE;
-use reading::Reading;
-use reading::SAID_SIZE;
 use reading::begin;
 use reading::feed;
 use reading::finish;
-
-// How many bytes came, 0 at the end, or whether reading failed.
-struct Piece {
-    count: usize,
-    failed: bool,
-}
+use word_bytes::BYTES_SIZE;
+use word_reading::Reading;
 
 // A text that was read to its end, or one that could not be.
 struct Text {
     reading: Reading,
     failed: bool,
-}
-
-// Reads as many bytes as come. A read that fails is said on standard error, with the reason.
-fn read_piece(space: &mut [u8]) -> Piece
-    ensures { λ r. ⌜ r .count ≤ length (now (space .exit)) ⌝ }
-{
-    let got = libc::read(STDIN_FILENO, space);
-    if got < 0 {
-        os::fail(b"standard input");
-        return Piece {
-            count: 0,
-            failed: true,
-        };
-    }
-    let n = io::count(got, space);
-    Piece {
-        count: n,
-        failed: false,
-    }
 }
 
 // Feeds the reading with standard input, piece by piece, to its end.
@@ -51,29 +26,22 @@ fn read_text(out: &mut [u8]) -> Text
     ensures { λ r. ⌜ Able (r .reading) (now (out .exit)) ⌝ }
 {
     let mut s = begin();
+    let mut failed = true;
     let mut space = io::large_buffer();
     let mut turns = u64::MAX;
     while turns > 0 {
-        let piece = read_piece(&mut space);
-        if piece.failed {
-            return Text {
-                reading: s,
-                failed: true,
-            };
-        }
-        let n = piece.count;
+        let p = read_piece(&mut space);
+        let n = p.count;
         if n == 0 {
-            return Text {
-                reading: s,
-                failed: false,
-            };
+            failed = p.failed;
+            break;
         }
         s = feed(s, &space[..n], out);
         turns -= 1;
     }
     Text {
         reading: s,
-        failed: true,
+        failed: failed,
     }
 }
 

@@ -1,15 +1,16 @@
 -- FOR EVERY WAY OF CUTTING A TEXT into pieces, each given to `feed` with the row and the reading as the last call left them: what `finish` leaves
--- are the bytes of the whole text, and what is said of it. Rests on digits Wrote, specs Reading, Said and Held.
+-- are the bytes of the whole text, and what is said of it. Rests on digits Wrote, text_form Reading and Said, word_reading Held, specs Fed.
 use mathlib.Core.Path.{_≡_}
 use mathlib.Core.List.{List, [], _++_}
 use Prim.Native.Nat.{ℕ}
 use lib.ListN.{take}
 use Rattle.digits.specs.Wrote.{Wrote}
-use Rattle.reading.specs.declared.Reading.{Reading}
+use Rattle.text_form.specs.Reading.{start, readOn}
+use Rattle.text_form.specs.Said.{encodedBytes, encodedSaid}
+use Rattle.word_reading.specs.declared.Reading.{Reading}
+use Rattle.word_reading.specs.Held.{Holds, Able}
 use Rattle.reading.specs.declared.Encoded.{Encoded}
-use Rattle.reading.specs.Reading.{start, readOn}
-use Rattle.reading.specs.Said.{encodedBytes, encodedSaid}
-use Rattle.reading.specs.Held.{Holds, Able, Feeds, Leaves}
+use Rattle.reading.specs.Fed.{Feeds, Leaves}
 
 -- the pieces of xs were given, first to last: `begin` promised the first, and each `feed` the others
 pub data Fed (old : List ℕ) : List ℕ → List ℕ → Reading → Type 0 where

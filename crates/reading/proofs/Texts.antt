@@ -1,27 +1,20 @@
 -- The bytes of a piece, one after the other; the end of a text.
--- Rests on digits Wrote and Due, specs Reading, Bytes, Said and Held, Turns.
-use mathlib.Core.Path.{_≡_, refl, sym, ap, _∙_}
+-- Rests on digits Wrote and Due, text_form Reading, Said and Encoded, word_reading Held and Turns, specs Fed.
+use mathlib.Core.Path.{_≡_, sym, ap, _∙_}
 use mathlib.Core.List.{List, [], _∷_, _++_, append-assoc, append-nil}
-use mathlib.Core.Option.{Option, some, none}
 use Prim.Native.Nat.{ℕ, _+_, _<_, _≤_}
 use native.Mathlib.Numerals.{add-one}
-use native.Mathlib.Omega.{arith}
 use lib.ListN.{length, getD, take}
 use lib.Seq.{take-suc, take-all}
 use Rattle.digits.specs.Wrote.{Wrote}
 use Rattle.digits.proofs.Due.{wrote-as, wrote-none}
-use Rattle.reading.specs.declared.Reading.{Reading}
-use Rattle.reading.specs.Reading.{Fault, Read, step, start, readOn, readWords}
-use Rattle.reading.specs.Bytes.{bytesOf}
-use Rattle.reading.specs.Said.{saidText, encodedBytes, encodedSaid}
-use Rattle.reading.specs.Held.{faultAt, Holds, Turns, Feeds}
-use Rattle.reading.proofs.Turns.{holds-as, held-none, held-fault}
-
--- reading on: a text in two parts
-pub read-append : (r : Read) (xs ys : List ℕ) → readOn r (xs ++ ys) ≡ readOn (readOn r xs) ys
-unfolding readOn
-read-append r [] ys = refl
-read-append r (x ∷ xs) ys = read-append (step r x) xs ys
+use Rattle.text_form.specs.Reading.{step, start, readOn, readWords}
+use Rattle.text_form.specs.Said.{saidText, encodedBytes, encodedSaid}
+use Rattle.text_form.proofs.Encoded.{read-append, encoded-bytes, encoded-quiet, encoded-nothing, encoded-told}
+use Rattle.word_reading.specs.declared.Reading.{Reading}
+use Rattle.word_reading.specs.Held.{faultAt, Holds, Turns}
+use Rattle.word_reading.proofs.Turns.{holds-as, held-none, held-fault}
+use Rattle.reading.specs.Fed.{Feeds}
 
 -- A PIECE
 
@@ -45,38 +38,17 @@ feeds-all text i l F old xs H = holds-as (F old xs H) (ap (λ (ys : List ℕ). r
 
 -- THE END
 
-module _ (xs : List ℕ) where
-  -- the bytes, and nothing is said; or no bytes, and the fault is told
-  module _ (e : readWords xs .fault ≡ none) where
-    pub encoded-bytes : bytesOf (readWords xs .words) ≡ encodedBytes xs
-    unfolding encodedBytes
-    encoded-bytes = ap (λ (o : Option Fault). elim o [ none ↦ bytesOf (readWords xs .words) | some f ↦ [] ]) (sym e)
+module _ (xs : List ℕ) {old new : List ℕ} {t : Reading} (H : Holds old (readWords xs) new t) where
+  module _ (z : t .fault ≡ 0) where
+    pub done-bytes : take (t .size) new ≡ encodedBytes xs
+    done-bytes = H .wrote .front ∙ encoded-bytes xs (held-none H z)
 
-    pub encoded-quiet : [] ≡ encodedSaid xs
-    unfolding encodedSaid
-    encoded-quiet = ap (λ (o : Option Fault). elim o [ none ↦ [] | some f ↦ saidText f ]) (sym e)
+    pub done-said : (said : List ℕ) → Wrote said 0 (encodedSaid xs) said 0
+    done-said said = wrote-as (wrote-none said 0) (encoded-quiet xs (held-none H z))
 
-  module _ {f : Fault} (e : readWords xs .fault ≡ some f) where
-    encoded-nothing : [] ≡ encodedBytes xs
-    unfolding encodedBytes
-    encoded-nothing = ap (λ (o : Option Fault). elim o [ none ↦ bytesOf (readWords xs .words) | some f ↦ [] ]) (sym e)
+  module _ (n : t .fault ≡ 0 → ⊥) where
+    pub told-bytes : take 0 new ≡ encodedBytes xs
+    told-bytes = encoded-nothing xs (held-fault H n)
 
-    encoded-told : saidText f ≡ encodedSaid xs
-    unfolding encodedSaid
-    encoded-told = ap (λ (o : Option Fault). elim o [ none ↦ [] | some f ↦ saidText f ]) (sym e)
-
-  -- in the rows
-  module _ {old new : List ℕ} {t : Reading} (H : Holds old (readWords xs) new t) where
-    module _ (z : t .fault ≡ 0) where
-      pub done-bytes : take (t .size) new ≡ encodedBytes xs
-      done-bytes = H .wrote .front ∙ encoded-bytes (held-none H z)
-
-      pub done-said : (said : List ℕ) → Wrote said 0 (encodedSaid xs) said 0
-      done-said said = wrote-as (wrote-none said 0) (encoded-quiet (held-none H z))
-
-    module _ (n : t .fault ≡ 0 → ⊥) where
-      pub told-bytes : take 0 new ≡ encodedBytes xs
-      told-bytes = encoded-nothing (held-fault H n)
-
-      pub told-said : {said saying : List ℕ} {r : ℕ} → Wrote said 0 (saidText (faultAt t)) saying r → Wrote said 0 (encodedSaid xs) saying r
-      told-said W = wrote-as W (encoded-told (held-fault H n))
+    pub told-said : {said saying : List ℕ} {r : ℕ} → Wrote said 0 (saidText (faultAt t)) saying r → Wrote said 0 (encodedSaid xs) saying r
+    told-said W = wrote-as W (encoded-told xs (held-fault H n))

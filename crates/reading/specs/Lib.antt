@@ -1,8 +1,2 @@
--- decimal words in a text, and its first fault: Mode, What, Fault, Read, step, readWords
-pub mod Reading
--- words as a file's bytes: bytesOf
-pub mod Bytes
--- what the encode program writes: saidText, encodedBytes, encodedSaid
-pub mod Said
--- what the numbers of a reading hold: modeOf, faultOf, Holds, Able, Turns, Feeds, Leaves
-pub mod Held
+-- what feeding and finishing promise: Feeds, Leaves
+pub mod Fed

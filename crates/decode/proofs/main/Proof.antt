@@ -1,12 +1,12 @@
 -- `decode::main` is safe and ends.
--- Rests on show `show_kept`, decimal Parts.
+-- Rests on base Lists, show `show_kept`.
 use borrow.Author.Needs.{needs}
 use mathlib.Core.Path.{sym, _∙_}
 use Prim.Native.Nat.{ℕ}
 use native.Mathlib.Omega.{arith}
 use lib.ListN.{length-replicate}
 use lib.Seq.{length-take-le}
-use Rattle.decimal.proofs.Parts.{zeros-room}
+use Rattle.base.proofs.Lists.{zeros-room}
 use Rattle.decode.proofs.main.Statement.{statement}
 use Rattle.decode.proofs.main.Tie as tie
 

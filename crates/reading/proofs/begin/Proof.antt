@@ -1,12 +1,13 @@
 -- Nothing is written, nothing was read.
--- Rests on digits Due, Modes.
+-- Rests on digits Due, word_bytes Modes, word_reading Turns.
 use mathlib.Core.Path.{refl}
 use native.Mathlib.Omega.{arith}
 use Rattle.base.specs.Lists.{each}
 use Rattle.digits.proofs.Due.{wrote-none}
-use Rattle.reading.specs.Reading.{start}
-use Rattle.reading.specs.Bytes.{bytesOf}
-use Rattle.reading.proofs.Modes.{mode-between, fault-none}
+use Rattle.text_form.specs.Reading.{start}
+use Rattle.text_form.specs.Bytes.{bytesOf}
+use Rattle.word_bytes.proofs.Modes.{mode-between}
+use Rattle.word_reading.proofs.Turns.{fault-none}
 use Rattle.reading.proofs.begin.Statement.{statement}
 use Rattle.reading.proofs.begin.Tie as tie
 

@@ -1,13 +1,15 @@
 -- A fault stays; else the last word is done, and without any word there is a fault.
--- Rests on Cases, Modes, Turns.
+-- Rests on text_form Cases, fault_line Faults, word_bytes Modes, word_reading Turns.
 use mathlib.Core.Path.{_∙_}
 use native.Mathlib.Omega.{arith}
 use borrow.Author.Needs.{needs}
 use Rattle.formats.specs.Limits.{wordLimit}
-use Rattle.reading.specs.Reading.{between, nothing, flush, worded, ended}
-use Rattle.reading.proofs.Cases.{with-none, with-fault, worded-nothing, worded-words}
-use Rattle.reading.proofs.Modes.{mode-between, what-nothing}
-use Rattle.reading.proofs.Turns.{holds-as, held-size, held-none, held-fault, faults, flushed, ends, able-fault, able-with, flush-room, flush-inside}
+use Rattle.text_form.specs.Reading.{between, nothing, flush, worded, ended}
+use Rattle.text_form.proofs.Cases.{with-none, with-fault, worded-nothing, worded-words}
+use Rattle.fault_line.proofs.Faults.{what-nothing}
+use Rattle.word_bytes.proofs.Modes.{mode-between}
+use Rattle.word_reading.proofs.Turns.{holds-as, held-size, held-none, held-fault, faults, flushed}
+use Rattle.word_reading.proofs.Turns.{ends, able-fault, able-with, flush-room, flush-inside}
 use Rattle.reading.proofs.end_text.Statement.{statement}
 use Rattle.reading.proofs.end_text.Tie as tie
 

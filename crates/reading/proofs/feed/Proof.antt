@@ -5,7 +5,8 @@ use Prim.Native.Nat.{_-_, _≤_}
 use native.Mathlib.Omega.{arith}
 use borrow.Author.Needs.{needs}
 use lib.ListN.{length, take}
-use Rattle.reading.specs.Held.{Able, Feeds}
+use Rattle.word_reading.specs.Held.{Able}
+use Rattle.reading.specs.Fed.{Feeds}
 use Rattle.reading.proofs.Texts.{feeds-none, feeds-next, feeds-all}
 use Rattle.reading.proofs.feed.Statement.{statement}
 use Rattle.reading.proofs.feed.Tie as tie

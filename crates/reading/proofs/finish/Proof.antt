@@ -2,7 +2,7 @@
 -- Rests on Texts.
 use native.Mathlib.Omega.{arith}
 use borrow.Author.Needs.{needs}
-use Rattle.reading.specs.Reading.{readWords}
+use Rattle.text_form.specs.Reading.{readWords}
 use Rattle.reading.proofs.Texts.{done-bytes, done-said, told-bytes, told-said}
 use Rattle.reading.proofs.finish.Statement.{statement}
 use Rattle.reading.proofs.finish.Tie as tie

@@ -1,5 +1,5 @@
 -- The words are those of the bytes, and few enough.
--- Rests on decimal Parts, digits Due, file_words Filled.
+-- Rests on base Lists, digits Due, file_words Filled.
 use borrow.Author.Needs.{needs}
 use mathlib.Core.Path.{_≡_, sym, ap, subst, _∙_}
 use mathlib.Core.List.{List}
@@ -7,11 +7,11 @@ use Prim.Native.Nat.{ℕ, _≤_}
 use native.Mathlib.Omega.{arith}
 use lib.ListN.{length, take}
 use lib.Seq.{length-take-le}
+use Rattle.base.proofs.Lists.{zeros-room}
 use Rattle.formats.specs.File.{wordsOf}
 use Rattle.file_words.proofs.Filled.{words-first}
 use Rattle.digits.proofs.Due.{wrote-as}
 use Rattle.decimal.specs.Writing.{sheetText}
-use Rattle.decimal.proofs.Parts.{zeros-room}
 use Rattle.show.proofs.show_words.Statement.{statement}
 use Rattle.show.proofs.show_words.Tie as tie
 
