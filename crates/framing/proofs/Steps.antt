@@ -21,7 +21,7 @@ use Rattle.catalogue.proofs.More.{lines-more}
 use Rattle.framing.specs.declared.Progress.{Progress}
 use Rattle.framing.specs.declared.Handed.{Handed}
 use Rattle.framing.specs.declared.Ended.{Ended}
-use Rattle.framing.specs.Came.{Whole, none, more, figuresOf, Sheets, Rest, between, half, within, Came}
+use Rattle.framing.specs.Came.{none, more, figuresOf, Sheets, between, Came}
 use Rattle.framing.specs.Feeding.{Line, Closes, Handing}
 
 figures-more : (bodies : List (List ℕ)) (body : List ℕ)

@@ -1,5 +1,5 @@
 -- The next byte, by how far the catalogue came: ignored, the first or the second of a length, one of a sheet, the last of a sheet.
--- Rests on base Truth, formats Limits, file_words Longer, specs Came and Feeding, Steps.
+-- Rests on base Truth, file_words Longer, specs Came and Feeding, Steps.
 use mathlib.Core.Path.{_≡_, refl, sym, ap, subst, _∙_}
 use mathlib.Core.Bool.{true, false}
 use mathlib.Core.List.{List, [], _∷_, _++_, append-assoc, append-nil}
@@ -8,7 +8,6 @@ use native.Mathlib.Omega.{arith}
 use lib.ListN.{length, take, length-append}
 use lib.Seq.{take-nil}
 use Rattle.base.proofs.Truth.{not-both}
-use Rattle.formats.specs.Limits.{mostSheets}
 use Rattle.file_words.specs.Longer.{longerFile}
 use Rattle.framing.specs.declared.Progress.{Progress}
 use Rattle.framing.specs.declared.Handed.{Handed}

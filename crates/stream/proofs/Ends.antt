@@ -23,7 +23,7 @@ use Rattle.catalogue.specs.Parts.{closingPart}
 use Rattle.catalogue.proofs.Whole.{by-parts}
 use Rattle.framing.specs.declared.Progress.{Progress}
 use Rattle.framing.specs.declared.Ended.{Ended}
-use Rattle.framing.specs.Came.{figuresOf, Sheets, Rest, between, half, within, Came}
+use Rattle.framing.specs.Came.{figuresOf, Rest, between, half, within, Came}
 use Rattle.framing.specs.Feeding.{Line}
 use Rattle.stream.specs.declared.Closing.{Closing}
 use Rattle.stream.specs.Ending.{allFigures, Listed, Closed, Parting}
