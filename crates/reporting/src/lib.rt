@@ -60,23 +60,23 @@ fn read_catalogue(row: &mut [u8], marks: &mut [u8]) -> Reading
     ensures { λ r. ⌜ Able (r .progress) (now (row .exit)) (now (marks .exit)) ⌝ }
 {
     let mut s = begin();
-    let mut failed = false;
+    let mut failed = true;
     let mut space = io::large_buffer();
     let mut turns = u64::MAX;
     while turns > 0 {
         if !s.more {
+            failed = false;
             break;
         }
         let p = read_piece(&mut space);
         let n = p.count;
-        failed = p.failed;
         if n == 0 {
+            failed = p.failed;
             break;
         }
         let r = feed_piece(s, &space[..n], row, marks);
         s = r.progress;
-        failed = r.failed;
-        if failed {
+        if r.failed {
             break;
         }
         turns -= 1;
