@@ -2,6 +2,8 @@
 pub mod Truth
 -- members, choices, numbers in a row, the room of a row of zeros
 pub mod Lists
+-- numbers that rise, the last and the k-th of a list: last-most, nth-in
+pub mod Numbers
 -- the order of copies, and their places in a rising list
 pub mod Copies
 -- orders of refusals: unrefused, passed, over-i, over-e; limits

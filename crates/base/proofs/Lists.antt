@@ -14,7 +14,7 @@ use lib.Dec.{eqb}
 use lib.ListN.{length, take, drop, replicate, length-drop, length-replicate}
 use lib.Seq.{length-take-le}
 use Rattle.base.specs.Lists.{each, keep, chosen, from, member}
-use Rattle.base.proofs.Truth.{not-both, any-i, any-e}
+use Rattle.base.proofs.Truth.{else-false, not-both, any-i, any-e}
 
 -- the lists that f gives
 module _ {A B : Type 0} (f : A → List B) where
@@ -196,6 +196,29 @@ module _ (f : ℕ → Bool) (a : ℕ) where
           rw (ap f e ∙ p, keep)
           (ap₂ (λ y l. y ∷ l) e (keep-none k (suc x) (omega arith) (λ y p q. only y (omega arith) (omega arith))))
       go (no e) below = rw (rejects x (only x (omega arith) (omega arith)) e, keep) (below (omega arith) (omega arith))
+
+-- where each number that passes has the one before it pass too, the first numbers are kept
+module _ (f : ℕ → Bool) where
+  abbrev Closed : ℕ → ℕ → Type 0
+  Closed a n = (y : ℕ) → a ≤ y → suc y < a + n → f (suc y) ≡ true → f y ≡ true
+
+  keep-stops : (n a : ℕ) → Closed a (suc n) → f a ≡ false → keep f (from (suc a) n) ≡ []
+  unfolding keep from
+  keep-stops zero a h e = refl
+  keep-stops (suc n) a h e =
+      let q : f (suc a) ≡ false = else-false (f (suc a)) (λ p. not-both (h a (omega arith) (omega arith) p) e) in
+      rw (q, keep) (keep-stops n (suc a) (λ y p l. h y (omega arith) (omega arith)) q)
+
+  pub keep-front : (n a : ℕ) → ((y : ℕ) → a ≤ y → suc y < a + n → f (suc y) ≡ true → f y ≡ true)
+      → keep f (from a n) ≡ from a (length (keep f (from a n)))
+  unfolding keep from
+  keep-front zero a h = refl
+  keep-front (suc n) a h = go (f a) refl (keep-front n (suc a) (λ y p l. h y (omega arith) (omega arith)))
+    where
+      go : (b : Bool) → f a ≡ b → keep f (from (suc a) n) ≡ from (suc a) (length (keep f (from (suc a) n)))
+          → keep f (from a (suc n)) ≡ from a (length (keep f (from a (suc n))))
+      go true e r = rw (e, keep) (ap (λ (l : List ℕ). a ∷ l) r)
+      go false e r = let z : keep f (from (suc a) n) ≡ [] = keep-stops n a h e in rw (e, keep, z)
 
 -- DIFFERENT ELEMENTS
 

@@ -3,9 +3,9 @@
 use mathlib.Core.Bool.{Bool, true, false, _&&_, _||_, not}
 use mathlib.Core.List.{List, [], _∷_, _++_}
 use mathlib.Core.Option.{Option, some, none}
-use Prim.Native.Nat.{ℕ, zero, suc}
-use lib.Dec.{eqb}
-use lib.ListN.{getElem?}
+use Prim.Native.Nat.{ℕ, zero, suc, _-_}
+use lib.Dec.{eqb, ltb}
+use lib.ListN.{getElem?, getD}
 
 module _ {A : Type 0} where
   -- some element passes the test
@@ -61,3 +61,19 @@ equal [] [] = true
 equal [] (y ∷ ys) = false
 equal (x ∷ xs) [] = false
 equal (x ∷ xs) (y ∷ ys) = eqb x y && equal xs ys
+
+-- each number is above the one before it
+unfoldable pub rising : List ℕ → Bool
+rising [] = true
+rising (x ∷ []) = true
+rising (x ∷ y ∷ ys) = ltb x y && rising (y ∷ ys)
+
+-- the last number of a list, 0 of an empty one
+unfoldable pub lastOf : List ℕ → ℕ
+lastOf [] = 0
+lastOf (x ∷ []) = x
+lastOf (x ∷ y ∷ ys) = lastOf (y ∷ ys)
+
+-- the k-th number of a list, counted from 1, 0 beyond it
+abbrev pub nth : List ℕ → ℕ → ℕ
+nth xs k = getD xs (k - 1) 0

@@ -16,10 +16,12 @@ use Rattle.base.proofs.Orders.{Numbered, unrefused, inside-of, not-outside}
 use Rattle.base.proofs.Pigeonhole.{distinct-e, pigeonhole}
 use Rattle.formats.specs.Words.{field, follow, Inside, unsound}
 use Rattle.formats.specs.Limits.{leastWords, leastBlocks, mostBlocks, leastEdges, mostEdges, mostBudget}
-use Rattle.formats.specs.GraphSheet.{Header, header, budgetIn, sheetLength, costWord, firstWord, targetWord, nextWord, chain, met, successors}
-use Rattle.formats.specs.GraphSheet.{short, badCounts, badLength, badBudget, costFits, badCosts, badTargets, badChains, exitChain}
+use Rattle.formats.specs.Versions.{budgetsAt, budgetCount, budgetsIn, largestIn, badBudget, badBudgets, Claimed}
+use Rattle.formats.specs.GraphSheet.{Header, header, sheetLength, costWord, firstWord, targetWord, nextWord, chain, met, successors}
+use Rattle.formats.specs.GraphSheet.{short, badCounts, badLength, costFits, badCosts, badTargets, badChains, exitChain}
 use Rattle.formats.specs.GraphSheet.{sheetOrder, sheetRefusal, successorCount, Formed, Sound}
 use Rattle.formats.proofs.Chains.{follow-above, chain-length-is, follow-ends}
+use Rattle.formats.proofs.Budgets.{graph-records, claimed, largest-small}
 
 -- a block's cost stands in its record
 pub cost-word : (h : Header) (w : List ℕ) (v : ℕ) → 1 ≤ v → v ≤ h .blocks → costWord h w v ≡ field w (h .records) 2 v 0
@@ -35,28 +37,40 @@ formed h w c l = record {
   size = eqb-true (length w) (sheetLength h) (not-false _ l);
 }
 
--- A SHEET THAT IS ACCEPTED: a header that is there, a budget within its limit, and sound records
+-- A SHEET THAT IS ACCEPTED: a header that is there, one to four rising budgets within their limit, and sound records
 pub record Accepted (w : List ℕ) : Type 0 where
   pub long : leastWords ≤ length w
-  pub budget : budgetIn w ≤ mostBudget
+  pub there : budgetsAt w + budgetCount w ≤ length w
+  pub claims : Claimed (budgetsIn w)
+  pub budget : largestIn w ≤ mostBudget
   pub sound : Sound (header w) w
 
+-- the budgets stand before the records
+pub budgets-inside : (w : List ℕ) → Formed (header w) w → budgetsAt w + budgetCount w ≤ length w
+budgets-inside w F = omega (arith, graph-records w, F .size)
+
 pub accepted : (w : List ℕ) → sheetRefusal w ≡ 0 → Accepted w
-unfolding sheetRefusal sheetOrder short badBudget
+unfolding sheetRefusal sheetOrder short
 accepted w e =
     let a₁ = unrefused 0 short _ w e in
     let a₂ = unrefused 1 _ _ w (a₁ .1) in
     let a₃ = unrefused 2 _ _ w (a₂ .1) in
     let a₄ = unrefused 3 _ _ w (a₃ .1) in
-    let a₅ = unrefused 4 _ _ w (a₄ .1) in
+    let a₄₁ = unrefused 40 _ _ w (a₄ .1) in
+    let a₅ = unrefused 4 _ _ w (a₄₁ .1) in
     let a₆ = unrefused 5 _ _ w (a₅ .1) in
     let a₇ = unrefused 6 _ _ w (a₆ .1) in
     let a₈ = unrefused 7 _ _ w (a₇ .1) in
+    let form = formed (header w) w (a₂ .0) (a₃ .0) in
+    let there = budgets-inside w form in
+    let claims : Claimed (budgetsIn w) = claimed w there (a₄ .0) (a₄₁ .0) in
     record {
       long = ltb-false (length w) leastWords (a₁ .0);
-      budget = ltb-false mostBudget (budgetIn w) (a₄ .0);
+      there = there;
+      claims = claims;
+      budget = largest-small claims;
       sound = record {
-        form = formed (header w) w (a₂ .0) (a₃ .0);
+        form = form;
         costs = a₅ .0;
         targets = a₆ .0;
         chains = a₇ .0;

@@ -1,5 +1,9 @@
 -- chains: chain-length-is, follow-ends
 pub mod Chains
+-- the budgets of a header, and what 4 and 41 leave of them: claimed, largest-most
+pub mod Budgets
+-- a bounded sheet's header reads back: header-reads
+pub mod Headings
 -- what conditions 1 to 8 give of an accepted graph sheet: blocks, edges, paid, target-inside, chain-ends, successors-counted
 pub mod Accepted
 -- a written bounded sheet reads back: reads, part-reads, met
@@ -8,6 +12,8 @@ pub mod Reading
 pub mod RuleKept
 pub mod RuleWords
 pub mod RuleRead
+-- on a sheet of the first version the rule is document 01's: one-start, targets-behind-one
+pub mod FirstVersion
 -- every word of such a sheet fits 16 bits: words-fit; two-bytes
 pub mod WordsFit
 -- the edge words handed out are those of the copy's chain: handed-out

@@ -1,5 +1,5 @@
 -- What a written bounded sheet reads as, behind any header: row by row the block, the low, the chain and the targets.
--- Rests on base Lists, specs BoundedSheet.
+-- Rests on base Lists, specs BoundedSheet, Headings.
 use mathlib.Core.Path.{_≡_, refl, sym, ap, ap₂, _∙_}
 use mathlib.Core.List.{List, [], _∷_, _++_, map}
 use mathlib.Core.Option.{some, Option·none-ne-some, Option·some-injective}
@@ -10,8 +10,9 @@ use lib.Seq.{take-at, getD-drop, drop-drop, getD-append-add, drop-append-add}
 use Rattle.base.specs.Lists.{each, from, chosen}
 use Rattle.base.proofs.Lists.{chosen-le, from-length}
 use Rattle.formats.specs.Words.{word, follow}
-use Rattle.formats.specs.BoundedSheet.{Row, edgeRecords, firstEdge, copyWords, edgeWords, edgeCount, recordWords, sheetWords}
+use Rattle.formats.specs.BoundedSheet.{Row, edgeRecords, firstEdge, copyWords, edgeWords, edgeCount, recordWords, Preface, headingWords, sheetWords}
 use Rattle.formats.specs.BoundedSheet.{Heading, heading, boundedLength, blockAt, lowAt, firstAt, targetAt, nextAt, chainAt, targetsAt}
+use Rattle.formats.proofs.Headings.{Proper, header-reads}
 
 -- three words a row
 pub copyWords-length : (e : ℕ) (rs : List Row) → length (copyWords e rs) ≡ 3 * length rs
@@ -203,9 +204,18 @@ module _ (h : Heading) (w : List ℕ) (rs : List Row) (L : Laid h w rs) where
       (in-edges (2 * (startOf 1 rs i - 1)) _ refl ∙ s .begins)
       ∙ ap (edgeRecords (firstAt h w i)) (sym (m .targets))
 
-pub laid : (b : ℕ) (rs : List Row) → Laid (heading (sheetWords b rs)) (sheetWords b rs) rs
-unfolding heading sheetWords
-laid b rs = record { front = length rs ∷ edgeCount rs ∷ b ∷ []; words = refl; records = refl; copies = refl; edges = refl }
+-- a written sheet is laid out behind its own header
+pub laid : (p : Preface) (rs : List Row) → Proper p → 1 ≤ length rs → Laid (heading (sheetWords p rs)) (sheetWords p rs) rs
+unfolding sheetWords
+laid p rs P l =
+    let c = header-reads p rs P l .counts in
+    record {
+      front = headingWords (p .second) (p .budgets) (p .entries) (length rs) (edgeCount rs);
+      words = refl;
+      records = ap (λ (h : Heading). h .records) c;
+      copies = ap (λ (h : Heading). h .copies) c;
+      edges = ap (λ (h : Heading). h .edges) c;
+    }
 
 -- EVERY EDGE, in order
 

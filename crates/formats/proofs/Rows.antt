@@ -2,15 +2,17 @@
 -- Rests on specs Refusals.
 use mathlib.Core.Path.{_≡_, refl}
 use mathlib.Core.List.{map}
-use Rattle.base.specs.Lists.{any, all, keep, each, from, member, distinct, equal}
+use Rattle.base.specs.Lists.{any, all, keep, each, from, member, distinct, equal, rising, lastOf}
 use Rattle.base.specs.Copy.{before}
 use Rattle.base.specs.Checks.{refused, over, outside}
 use Rattle.formats.specs.Words.{follow, chainLength, unsound}
-use Rattle.formats.specs.GraphSheet.{header, budgetIn, costWord, chain, met, successorCount}
-use Rattle.formats.specs.GraphSheet.{short, badCounts, badLength, badBudget, costFits, badCosts, badTargets, badChains, exitChain}
+use Rattle.formats.specs.Versions.{isSecond, budgetsAt, budgetCount, budgetsIn, badBudget, badBudgets}
+use Rattle.formats.specs.GraphSheet.{header, costWord, chain, met, successorCount}
+use Rattle.formats.specs.GraphSheet.{short, badCounts, badLength, costFits, badCosts, badTargets, badChains, exitChain}
 use Rattle.formats.specs.GraphSheet.{sheetOrder, sheetRefusal, countOrder, countSuccessors}
-use Rattle.formats.specs.BoundedSheet.{heading, copyAt, chainAt, targetsAt, edgePart}
-use Rattle.formats.specs.Rule11.{tooShort, badLimits, wrongLength, largeBudget, badBlocks, badLows, badCopyOrder, copiesOf, notOneOf}
+use Rattle.formats.specs.BoundedSheet.{heading, entriesIn, copyAt, chainAt, targetsAt, edgePart}
+use Rattle.formats.specs.Rule11.{tooShort, badLimits, wrongLength, badBlocks, badLows, badCopyOrder, copiesOf, notOneOf}
+use Rattle.formats.specs.Rule11.{startCount, entryFits, badEntries, noLastEntry, unnamedStart}
 use Rattle.formats.specs.Rule11.{badExit, badEdgeOrder, badTargetWords, boundedOrder, boundedRefusal, partOrder, handOut}
 use Rattle.formats.specs.File.{wordOf, wordsOf}
 use Rattle.formats.specs.Listing.{digits, decimal, line, headingLine, copyLine, listingOf}
@@ -22,11 +24,11 @@ use Rattle.formats.specs.Refusals.{sheetShown, outcome, refusals}
 
 pub pinned : map (λ r. outcome (r .0)) refusals ≡ map (λ r. r .1) refusals
 unfolding refusals paper least nine inBytes text lines
-    any all keep each from member distinct equal before refused over outside
-    follow chainLength unsound header budgetIn costWord chain met successorCount
-    short badCounts badLength badBudget costFits badCosts badTargets badChains exitChain sheetOrder sheetRefusal countOrder countSuccessors
-    heading copyAt chainAt targetsAt edgePart
-    tooShort badLimits wrongLength largeBudget badBlocks badLows badCopyOrder copiesOf notOneOf
+    any all keep each from member distinct equal rising lastOf before refused over outside
+    follow chainLength unsound isSecond budgetsAt budgetCount budgetsIn badBudget badBudgets header costWord chain met successorCount
+    short badCounts badLength costFits badCosts badTargets badChains exitChain sheetOrder sheetRefusal countOrder countSuccessors
+    heading entriesIn copyAt chainAt targetsAt edgePart
+    tooShort badLimits wrongLength badBlocks badLows badCopyOrder copiesOf notOneOf startCount entryFits badEntries noLastEntry unnamedStart
     badExit badEdgeOrder badTargetWords boundedOrder boundedRefusal partOrder handOut
     wordOf wordsOf digits decimal line headingLine copyLine listingOf
     sheetsUpTo sheets unusedBlocks refusedAs figuresLine refusedLine sheetLine plus sums totalLine

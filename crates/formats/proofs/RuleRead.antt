@@ -1,5 +1,5 @@
 -- A sheet that keeps rule 11 is written from rows that fit; so the rule, clause by clause, is that there are such rows.
--- Rests on base Truth, Copies and Orders, Chains, Reading, RuleKept, RuleWords.
+-- Rests on base Truth, Copies and Orders, Budgets, Headings, Reading, RuleKept, RuleWords.
 use mathlib.Core.Path.{_≡_, refl, sym, ap, ap₂, subst, _∙_}
 use mathlib.Core.Logic.{_≢_, _↔_, ⊎-elim}
 use mathlib.Core.Bool.{Bool, true, false, _&&_, not}
@@ -9,26 +9,32 @@ use mathlib.Core.List.{List·Memᴰ·eq-of-singleton, Memᴰ·of-map}
 use mathlib.Core.Option.{Option, some, none, Option·map, Option·none-ne-some, Option·some-injective}
 use Prim.Native.Nat.{ℕ, zero, suc, _+_, _-_, _*_, _≤_, _<_}
 use native.Mathlib.Omega.{arith}
-use borrow.Author.Tests.{eq-eqb, ne-eqb, eqb-true, ltb-false, not-false}
+use native.Mathlib.Decide.{ℕ-discrete}
+use borrow.Author.Tests.{eq-eqb, ne-eqb, eqb-true, ltb-false, not-false, not-true}
 use lib.Dec.{eqb, ltb}
 use lib.ListN.{length, take, drop, take-append-drop, length-map}
-use lib.Seq.{drop-length, drop-at, length-take-le}
-use Rattle.base.specs.Lists.{each, from, chosen, equal}
+use lib.Seq.{drop-length, length-take-le}
+use Rattle.base.specs.Lists.{each, from, member, chosen, equal, lastOf, nth}
 use Rattle.base.specs.Copy.{Copy, before}
-use Rattle.base.proofs.Truth.{and-e, or-false, any-false}
-use Rattle.base.proofs.Lists.{each-i, keep-i, keep-e, from-i, from-e, from-length, chosen-map, chosen-le, chosen-some}
-use Rattle.base.proofs.Copies.{Rising, before-trans}
+use Rattle.base.proofs.Truth.{not-both, and-e, or-e, or-false, any-false}
+use Rattle.base.proofs.Lists.{each-i, member-e, keep-i, keep-e, keep-front, from-i, from-e, from-length, chosen-map, chosen-le, chosen-some}
+use Rattle.base.proofs.Copies.{Rising, before-cases, before-trans}
 use Rattle.formats.specs.Limits.{leastWords, mostBlocks, mostBudget, leastCopies, mostCopies, leastBoundedEdges, mostBoundedEdges}
 use Rattle.formats.specs.Words.{follow, Inside}
 use Rattle.base.specs.Checks.{outside}
-use Rattle.formats.specs.BoundedSheet.{Row, copyWords, edgeWords, sheetWords, Heading, heading, boundedLength}
+use Rattle.formats.specs.Versions.{isSecond, budgetsIn, Claimed}
+use Rattle.formats.specs.BoundedSheet.{Row, copyWords, edgeWords, edgeCount, recordWords, Preface, headingWords, sheetWords}
+use Rattle.formats.specs.BoundedSheet.{Heading, heading, entriesIn, prefaceIn, boundedLength}
 use Rattle.formats.specs.BoundedSheet.{blockAt, lowAt, firstAt, targetAt, nextAt, copyAt, chainAt, targetsAt}
-use Rattle.formats.specs.Rule11.{tooShort, badLimits, wrongLength, largeBudget, badBlocks, badLows, badCopyOrder, copiesOf}
-use Rattle.formats.specs.Rule11.{notOneOf, badExit, badEdgeOrder, badTargetWords, boundedOrder, boundedRefusal, Formed, Ruled}
+use Rattle.formats.specs.Rule11.{tooShort, badLimits, wrongLength, badBlocks, badLows, badCopyOrder, copiesOf}
+use Rattle.formats.specs.Rule11.{notOneOf, badExit, badEdgeOrder, startCount, badTargetWords, entryFits, badEntries, noLastEntry}
+use Rattle.formats.specs.Rule11.{unnamedStart, boundedOrder, boundedRefusal, Formed, Ruled, Entered}
 use Rattle.base.proofs.Orders.{unrefused, inside-of}
+use Rattle.formats.proofs.Budgets.{bounded-records, claimed, largest-small}
+use Rattle.formats.proofs.Headings.{header-was, largest-is, read-proper}
 use Rattle.formats.proofs.Reading.{Laid, edgePlace}
-use Rattle.formats.proofs.RuleKept.{RowFits, Once, RowsFit, Fits, fits-rule}
-use Rattle.formats.proofs.RuleWords.{three-words, rowAt, rows, CopiesWere, copies-were}
+use Rattle.formats.proofs.RuleKept.{RowFits, Once, Starts, RowsFit, EntriesFit, Fits, fits-rule}
+use Rattle.formats.proofs.RuleWords.{rowAt, rows, CopiesWere, copies-were}
 
 -- the limits and the length give the form
 pub formed : (h : Heading) (s : List ℕ) → badLimits h s ≡ false → wrongLength h s ≡ false → Formed h s
@@ -41,42 +47,52 @@ formed h s l w =
       size = eqb-true (length s) (boundedLength h) (not-false _ w);
     }
 
--- WHAT THE CLAUSES SAY: a header that is there, a budget within its limit, one copy of block 1, and records that keep the rule
+-- WHAT THE CLAUSES SAY: a header that is there, one to four rising budgets, records that keep the rule, and entries
 pub record Clauses (s : List ℕ) : Type 0 where
   pub long : leastWords ≤ length s
-  pub budget : heading s .budget ≤ mostBudget
-  pub one : notOneOf (heading s) s 1 ≡ false
+  pub there : heading s .records ≤ length s
+  pub claims : Claimed (budgetsIn s)
+  pub budget : heading s .largest ≤ mostBudget
   pub ruled : Ruled (heading s) s
+  pub entered : Entered (heading s) s (budgetsIn s) (entriesIn s)
 
 pub clauses : (s : List ℕ) → boundedRefusal s ≡ 0 → Clauses s
-unfolding boundedRefusal boundedOrder tooShort largeBudget
+unfolding boundedRefusal boundedOrder tooShort
 clauses s e =
     let a = unrefused 10 _ _ s e in
     let b = unrefused 10 _ _ s (a .1) in
     let c = unrefused 10 _ _ s (b .1) in
     let d = unrefused 10 _ _ s (c .1) in
-    let f = unrefused 10 _ _ s (d .1) in
-    let g = unrefused 10 _ _ s (f .1) in
+    let g = unrefused 10 _ _ s (d .1) in
     let h = unrefused 10 _ _ s (g .1) in
     let i = unrefused 10 _ _ s (h .1) in
     let j = unrefused 10 _ _ s (i .1) in
     let k = unrefused 10 _ _ s (j .1) in
     let l = unrefused 10 _ _ s (k .1) in
     let m = unrefused 10 _ _ s (l .1) in
+    let n = unrefused 10 _ _ s (m .1) in
+    let o = unrefused 10 _ _ s (n .1) in
+    let q = unrefused 10 _ _ s (o .1) in
+    let r = unrefused 10 _ _ s (q .1) in
+    let form = formed (heading s) s (b .0) (c .0) in
+    let there : heading s .records ≤ length s = omega (arith, form .size) in
+    let claims : Claimed (budgetsIn s) = claimed s (omega (arith, bounded-records s)) (d .0) (g .0) in
     record {
       long = ltb-false (length s) leastWords (a .0);
-      budget = ltb-false mostBudget (heading s .budget) (d .0);
-      one = i .0;
+      there = there;
+      claims = claims;
+      budget = omega (arith, largest-is s, largest-small claims);
       ruled = record {
-        form = formed (heading s) s (b .0) (c .0);
-        blocks = f .0;
-        lows = g .0;
-        order = h .0;
-        two = j .0;
-        exit = k .0;
-        edges = l .0;
-        targets = m .0;
+        form = form;
+        blocks = h .0;
+        lows = i .0;
+        order = j .0;
+        two = k .0;
+        exit = l .0;
+        edges = m .0;
+        targets = n .0;
       };
+      entered = record { fit = o .0; last = q .0; named = r .0 };
     }
 
 -- behind the header that was read
@@ -201,12 +217,69 @@ module _ (h : Heading) (s : List ℕ) (C : Ruled h s) where
                 List·Memᴰ·eq-of-singleton (subst (List·Memᴰ i) q (keep-i test (from 1 (h .copies)) (t .0) (eq-eqb _ v f)));
           }
 
-  pub row-fits : (i : ℕ) → List·Memᴰ i (from 1 (h .copies)) → RowFits (length (rows h s)) (h .budget) (rowAt h s i)
+  -- the copies of block 1 are the first ones
+  in-order : (i : ℕ) → 1 ≤ i → suc i < 1 + h .copies → before (copyAt h s i) (copyAt h s (suc i)) ≡ true
+  unfolding badCopyOrder
+  in-order i p q =
+      let m = from-i (h .copies - 1) 1 i p (omega arith) in
+      let f = any-false (λ i. not (before (copyAt h s i) (copyAt h s (suc i)))) (from 1 (h .copies - 1)) (C .order) m in
+      not-false (before (copyAt h s i) (copyAt h s (suc i))) f
+
+  block-above : (i : ℕ) → 1 ≤ i → i ≤ h .copies → 1 ≤ blockAt h s i
+  unfolding badBlocks
+  block-above i p q =
+      inside-of 1 mostBlocks (blockAt h s i)
+      (any-false (λ i. outside 1 mostBlocks (blockAt h s i)) (from 1 (h .copies)) (C .blocks) (from-i (h .copies) 1 i p (omega arith))) .0
+
+  abbrev isStart : ℕ → Bool
+  isStart i = eqb (blockAt h s i) 1
+
+  pub starts-front : copiesOf h s 1 ≡ from 1 (startCount h s)
+  unfolding copiesOf startCount copyAt
+  starts-front = keep-front (λ i. eqb (blockAt h s i) 1) (h .copies) 1 (λ y p l e.
+      let b = block-above y p (omega arith) in
+      let z = eqb-true (blockAt h s (suc y)) 1 e in
+      eq-eqb (blockAt h s y) 1 (⊎-elim (λ q. omega arith) (λ q. omega (arith, q .0))
+      (before-cases (copyAt h s y) (copyAt h s (suc y)) (in-order y p (omega arith)))))
+
+  pub start-in : (i : ℕ) → 1 ≤ i → i ≤ h .copies → blockAt h s i ≡ 1 → i ≤ startCount h s
+  unfolding copiesOf
+  start-in i p q e =
+      let k = keep-i isStart (from 1 (h .copies)) (from-i (h .copies) 1 i p (omega arith)) (eq-eqb (blockAt h s i) 1 e) in
+      omega (arith, from-e (startCount h s) 1 i (subst (List·Memᴰ i) starts-front k))
+
+  pub start-out : (i : ℕ) → 1 ≤ i → i ≤ startCount h s → (i ≤ h .copies) × (blockAt h s i ≡ 1)
+  unfolding copiesOf
+  start-out i p q =
+      let k = keep-e isStart (from 1 (h .copies)) (subst (List·Memᴰ i) (sym starts-front) (from-i (startCount h s) 1 i p (omega arith))) in
+      (omega (arith, from-e (h .copies) 1 i (k .0)), eqb-true (blockAt h s i) 1 (k .1))
+
+  pub starts-most : startCount h s ≤ h .copies
+  starts-most = go (ℕ-discrete (startCount h s) 0)
+    where
+      go : Dec (startCount h s ≡ 0) → startCount h s ≤ h .copies
+      go (yes z) = omega arith
+      go (no z) = start-out (startCount h s) (omega arith) (omega arith) .0
+
+  starts-fit : Starts (startCount h s) (rows h s)
+  unfolding rowAt copyAt
+  starts-fit = record {
+    most = omega (arith, starts-most, rows-length);
+    is = λ i r c l.
+        let t = row-is i r c in
+        sym (ap (λ (r : Row). r .copy .block) (t .1)) ∙ start-out i (from-e (h .copies) 1 i (t .0) .0) l .1;
+    only = λ i r c b.
+        let t = row-is i r c in
+        let m = from-e (h .copies) 1 i (t .0) in
+        start-in i (m .0) (omega arith) (ap (λ (r : Row). r .copy .block) (t .1) ∙ b);
+  }
+
+  pub row-fits : (i : ℕ) → List·Memᴰ i (from 1 (h .copies)) → RowFits (length (rows h s)) (startCount h s) (h .largest) (rowAt h s i)
   unfolding rowAt copyAt badBlocks badLows copiesOf badExit badTargetWords targetsAt chainAt follow
   row-fits i m =
       record {
         block = inside-of 1 mostBlocks (blockAt h s i) (any-false (λ i. outside 1 mostBlocks (blockAt h s i)) (from 1 (h .copies)) (C .blocks) m);
-        low = ltb-false (h .budget) (lowAt h s i) (any-false (λ i. ltb (h .budget) (lowAt h s i)) (from 1 (h .copies)) (C .lows) m);
+        low = ltb-false (h .largest) (lowAt h s i) (any-false (λ i. ltb (h .largest) (lowAt h s i)) (from 1 (h .copies)) (C .lows) m);
         exit = λ e.
             let k = keep-i (λ i. eqb (blockAt h s i) 2) (from 1 (h .copies)) m (eq-eqb (blockAt h s i) 2 e) in
             let t = not-false (eqb (lowAt h s i) 0 && eqb (firstAt h s i) 0)
@@ -221,25 +294,18 @@ module _ (h : Heading) (s : List ℕ) (C : Ruled h s) where
             target t (o .0) (o .2) e n;
       }
     where
-      target : (t e : ℕ) → targetAt h s e ≡ t → List·Memᴰ e (from 1 (h .edges)) → t ≢ 0 → (2 ≤ t) × (t ≤ length (rows h s))
+      target : (t e : ℕ) → targetAt h s e ≡ t → List·Memᴰ e (from 1 (h .edges)) → t ≢ 0 → (suc (startCount h s) ≤ t) × (t ≤ length (rows h s))
       target t e q m n =
-          let f = any-false (λ e. not (eqb (targetAt h s e) 0) && outside 2 (h .copies) (targetAt h s e)) (from 1 (h .edges))
+          let f = any-false (λ e. not (eqb (targetAt h s e) 0) && outside (suc (startCount h s)) (h .copies) (targetAt h s e)) (from 1 (h .edges))
           (C .targets) m in
           let z : eqb (targetAt h s e) 0 ≡ false = ne-eqb _ 0 (λ x. n (sym q ∙ x)) in
-          let l = inside-of 2 (h .copies) (targetAt h s e) (rw z at f) in
+          let l = inside-of (suc (startCount h s)) (h .copies) (targetAt h s e) (rw z at f) in
           omega (arith, l, q, rows-length)
 
   map-copy : (is : List ℕ) → map (λ (r : Row). r .copy) (map (rowAt h s) is) ≡ map (copyAt h s) is
   unfolding rowAt
   map-copy [] = refl
   map-copy (i ∷ is) = ap (λ (l : List Copy). copyAt h s i ∷ l) (map-copy is)
-
-  in-order : (i : ℕ) → 1 ≤ i → suc i < 1 + h .copies → before (copyAt h s i) (copyAt h s (suc i)) ≡ true
-  unfolding badCopyOrder
-  in-order i p q =
-      let m = from-i (h .copies - 1) 1 i p (omega arith) in
-      let f = any-false (λ i. not (before (copyAt h s i) (copyAt h s (suc i)))) (from 1 (h .copies - 1)) (C .order) m in
-      not-false (before (copyAt h s i) (copyAt h s (suc i))) f
 
   rises : Rising (map (λ (r : Row). r .copy) (rows h s))
   unfolding rows
@@ -249,45 +315,84 @@ module _ (h : Heading) (s : List ℕ) (C : Ruled h s) where
   unfolding notOneOf
   one-of v e = once v (eqb-true _ 1 (not-false (eqb (length (copiesOf h s v)) 1) e))
 
-  pub rows-fit : RowsFit (h .budget) (rows h s)
+  pub rows-fit : RowsFit (startCount h s) (h .largest) (rows h s)
   rows-fit = record {
+    starts = starts-fit;
     rise = rises;
     two = one-of 2 (C .two);
-    row = λ i r q. let t = row-is i r q in subst (RowFits (length (rows h s)) (h .budget)) (t .1) (row-fits i (t .0));
+    row = λ i r q. let t = row-is i r q in subst (RowFits (length (rows h s)) (startCount h s) (h .largest)) (t .1) (row-fits i (t .0));
   }
+
+  -- what the entries name
+  module _ (bs es : List ℕ) (E : Entered h s bs es) where
+    pub entry-names : (j : ℕ) → 1 ≤ j → j ≤ length bs → nth es j ≢ 0
+        → (1 ≤ nth es j) × (nth es j ≤ startCount h s) × (lowAt h s (nth es j) ≤ nth bs j)
+    unfolding badEntries entryFits
+    entry-names j p q n =
+        let e = nth es j in
+        let t = not-false _ (any-false (λ k. not (entryFits h s (nth bs k) (nth es k))) (from 1 (length bs)) (E .fit)
+        (from-i (length bs) 1 j p (omega arith))) in
+        let u = ⊎-elim (λ z. absurd (n (eqb-true e 0 z))) (λ x. x) (or-e (eqb e 0) _ t) in
+        let a = and-e (not (outside 1 (h .copies) e)) _ u in
+        let b = and-e (eqb (blockAt h s e) 1) _ (a .1) in
+        let i = inside-of 1 (h .copies) e (not-true _ (a .0)) in
+        (i .0, start-in e (i .0) (i .1) (eqb-true _ 1 (b .0)), ltb-false (nth bs j) (lowAt h s e) (not-true _ (b .1)))
+
+    pub start-named : (i : ℕ) → 1 ≤ i → i ≤ startCount h s → List·Memᴰ i es
+    unfolding unnamedStart
+    start-named i p q =
+        member-e i es (not-false (member i es) (any-false (λ i. not (member i es)) (copiesOf h s 1) (E .named)
+        (subst (List·Memᴰ i) (sym starts-front) (from-i (startCount h s) 1 i p (omega arith)))))
+
+    pub last-some : lastOf es ≢ 0
+    unfolding noLastEntry
+    last-some z = not-both (eq-eqb (lastOf es) 0 z) (E .last)
+
+    entries-fit : EntriesFit bs es (startCount h s) (rows h s)
+    unfolding rowAt copyAt
+    entries-fit = record {
+      fit = λ j p q n.
+          let f = entry-names j p q n in
+          (f .1, λ r c. let t = row-is (nth es j) r c in omega (arith, f .2, ap (λ (r : Row). r .copy .low) (t .1)));
+      last = last-some;
+      named = start-named;
+    }
 
 -- RULE 11 AND ROWS
 
 -- a sheet that is written from rows that fit
 pub record Written (s : List ℕ) : Type 0 where
-  pub budget : ℕ
+  pub preface : Preface
   pub rows : List Row
-  pub words : s ≡ sheetWords budget rows
-  pub fits : Fits budget rows
+  pub words : s ≡ sheetWords preface rows
+  pub fits : Fits preface rows
 
 written : (s : List ℕ) → Clauses s → Written s
-unfolding heading sheetWords
+unfolding sheetWords laid-out heading
 written s C =
     let h = heading s in
     let R = C .ruled in
     let L = laid-out h s R in
+    let p = prefaceIn s in
+    let front : L .front ≡ headingWords (isSecond s) (budgetsIn s) (entriesIn s) (length (rows h s)) (edgeCount (rows h s))
+    = header-was s (C .long) (C .there) ∙ ap₂ (λ c f. headingWords (isSecond s) (budgetsIn s) (entriesIn s) c f) (L .copies) (L .edges) in
     record {
-      budget = h .budget;
+      preface = p;
       rows = rows h s;
-      words = three-words s 0 (C .long)
-          ∙ ap₂ (λ x l. x ∷ l) (L .copies) (ap₂ (λ x l. x ∷ h .budget ∷ l) (L .edges)
-          (ap (drop 3) (L .words) ∙ drop-at (L .front) (copyWords 1 (rows h s) ++ edgeWords 1 (rows h s)) 3 (sym (L .records))));
+      words = L .words ∙ ap (λ (l : List ℕ). l ++ recordWords (rows h s)) front;
       fits = record {
         few = omega (arith, R .form .copies, L .copies);
         edges = omega (arith, R .form .edges, L .edges);
-        budget = C .budget;
-        one = one-of h s R 1 (C .one);
-        rows = rows-fit h s R;
+        proper = read-proper s (C .long) (C .there);
+        claims = C .claims;
+        starts = startCount h s;
+        rows = subst (λ (b : ℕ). RowsFit (startCount h s) b (rows h s)) (largest-is s) (rows-fit h s R);
+        entries = entries-fit h s R (budgetsIn s) (entriesIn s) (C .entered);
       };
     }
 
 pub rule11 : (s : List ℕ) → (boundedRefusal s ≡ 0) ↔ Written s
 rule11 s = (
   λ e. written s (clauses s e),
-  λ W. subst (λ (l : List ℕ). boundedRefusal l ≡ 0) (sym (W .words)) (fits-rule (W .budget) (W .rows) (W .fits)),
+  λ W. subst (λ (l : List ℕ). boundedRefusal l ≡ 0) (sym (W .words)) (fits-rule (W .preface) (W .rows) (W .fits)),
 )

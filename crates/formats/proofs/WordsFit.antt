@@ -1,6 +1,7 @@
 -- Every word of a sheet that is written from rows that fit is at most the largest limit, so it fits 16 bits.
--- Rests on base Lists, specs BoundedSheet, RuleKept.
-use mathlib.Core.Path.{_≡_, refl}
+-- Rests on base Lists and Numbers, specs BoundedSheet, Budgets, RuleKept.
+use mathlib.Core.Path.{_≡_, refl, sym, _∙_}
+use mathlib.Core.Bool.{Bool, true, false}
 use mathlib.Core.Logic.{⊎-elim}
 use mathlib.Core.List.{List, [], _∷_, List·Memᴰ, List·Memᴰ·head, List·Memᴰ·tail, List·Memᴰ·not-nil, List·Memᴰ·cases-cons}
 use mathlib.Core.List.{List·Memᴰ·append-cases}
@@ -8,10 +9,13 @@ use Prim.Native.Nat.{ℕ, suc, _+_, _≤_, _<_}
 use native.Mathlib.Omega.{arith}
 use native.Mathlib.Decide.{ℕ-discrete}
 use lib.ListN.{length}
+use Rattle.base.specs.Lists.{lastOf, nth}
 use Rattle.base.proofs.Lists.{choice-of}
-use Rattle.formats.specs.Limits.{mostBoundedEdges, wordLimit}
+use Rattle.base.proofs.Numbers.{nth-of}
+use Rattle.formats.specs.Limits.{mostBudget, mostBoundedEdges, wordLimit}
 use Rattle.formats.specs.File.{wordOf}
-use Rattle.formats.specs.BoundedSheet.{Row, firstEdge, edgeRecords, copyWords, edgeWords, edgeCount, sheetWords}
+use Rattle.formats.specs.BoundedSheet.{Row, firstEdge, edgeRecords, copyWords, edgeWords, edgeCount, Preface, headingWords, sheetWords}
+use Rattle.formats.proofs.Budgets.{largest-small}
 use Rattle.formats.proofs.RuleKept.{RowFits, Fits}
 
 -- the largest word is that of two bytes 255
@@ -65,26 +69,49 @@ module _ (M : ℕ) where
       (edges-small (e + length (r .targetWords)) rs (omega arith) (λ q n. f q (List·Memᴰ·tail n)) x)
       (List·Memᴰ·append-cases (edgeRecords e (r .targetWords)) m)
 
-pub words-small : (b : ℕ) (rs : List Row) → Fits b rs → (x : ℕ) → List·Memᴰ x (sheetWords b rs) → x ≤ mostBoundedEdges
-unfolding sheetWords
-words-small b rs F =
+pub words-small : (p : Preface) (rs : List Row) → Fits p rs → (x : ℕ) → List·Memᴰ x (sheetWords p rs) → x ≤ mostBoundedEdges
+unfolding sheetWords headingWords
+words-small p rs F x m =
     let M = mostBoundedEdges in
     let small : (r : Row) → List·Memᴰ r rs → RowSmall M r = λ r m. let i = choice-of m in row r (F .rows .row _ r (i .1)) in
     let room : 1 + edgeCount rs ≤ suc M = omega (arith, F .edges) in
-    small-cons M (omega (arith, F .few)) (small-cons M (omega (arith, F .edges)) (small-cons M (omega (arith, F .budget))
-    (λ x m. ⊎-elim (copies-small M 1 rs room small x) (edges-small M 1 rs room small x) (List·Memᴰ·append-cases (copyWords 1 rs) m))))
+    ⊎-elim (heading-small (p .second) x)
+    (λ n. ⊎-elim (copies-small M 1 rs room small x) (edges-small M 1 rs room small x) (List·Memᴰ·append-cases (copyWords 1 rs) n))
+    (List·Memᴰ·append-cases (headingWords (p .second) (p .budgets) (p .entries) (length rs) (edgeCount rs)) m)
   where
-    row : (r : Row) → RowFits (length rs) b r → RowSmall mostBoundedEdges r
+    largest : lastOf (p .budgets) ≤ mostBudget
+    largest = largest-small (F .claims)
+
+    row : (r : Row) → RowFits (length rs) (F .starts) (lastOf (p .budgets)) r → RowSmall mostBoundedEdges r
     row r f = record {
       block = omega (arith, f .block);
-      low = omega (arith, f .low, F .budget);
+      low = omega (arith, f .low, largest);
       targets = λ t m. target t (f .targets t m) (ℕ-discrete t 0);
     }
       where
-        target : (t : ℕ) → ((t ≡ 0 → ⊥) → (2 ≤ t) × (t ≤ length rs)) → Dec (t ≡ 0) → t ≤ mostBoundedEdges
+        target : (t : ℕ) → ((t ≡ 0 → ⊥) → (suc (F .starts) ≤ t) × (t ≤ length rs)) → Dec (t ≡ 0) → t ≤ mostBoundedEdges
         target t g (yes e) = omega arith
         target t g (no n) = omega (arith, g n, F .few)
 
+    -- an entry is 0 or the number of a start copy
+    entry : (e : ℕ) → List·Memᴰ e (p .entries) → e ≤ mostBoundedEdges
+    entry e m =
+        let i = nth-of e m in
+        go (i .0) (ℕ-discrete e 0) (λ n. F .entries .fit (i .0) (i .1) (omega (arith, i .2, F .proper .same)) (λ z. n (sym (i .3) ∙ z)) .0) (i .3)
+      where
+        go : (j : ℕ) → Dec (e ≡ 0) → ((e ≡ 0 → ⊥) → nth (p .entries) j ≤ F .starts) → nth (p .entries) j ≡ e → e ≤ mostBoundedEdges
+        go j (yes z) f q = omega arith
+        go j (no z) f q = omega (arith, f z, F .rows .starts .most, F .few)
+
+    heading-small : (v : Bool) → Small mostBoundedEdges (headingWords v (p .budgets) (p .entries) (length rs) (edgeCount rs))
+    heading-small true =
+        let M = mostBoundedEdges in
+        small-cons M (omega arith) (small-cons M (omega (arith, F .few)) (small-cons M (omega (arith, F .edges)) (small-cons M (omega (arith, F .claims .count))
+        (λ x m. ⊎-elim (λ n. omega (arith, F .claims .small x n)) (entry x) (List·Memᴰ·append-cases (p .budgets) m)))))
+    heading-small false =
+        let M = mostBoundedEdges in
+        small-cons M (omega (arith, F .few)) (small-cons M (omega (arith, F .edges)) (small-cons M (omega (arith, largest)) (small-nil M)))
+
 -- so each word fits 16 bits
-pub words-fit : (b : ℕ) (rs : List Row) → Fits b rs → (x : ℕ) → List·Memᴰ x (sheetWords b rs) → x < wordLimit
-words-fit b rs F x m = omega (arith, words-small b rs F x m)
+pub words-fit : (p : Preface) (rs : List Row) → Fits p rs → (x : ℕ) → List·Memᴰ x (sheetWords p rs) → x < wordLimit
+words-fit p rs F x m = omega (arith, words-small p rs F x m)

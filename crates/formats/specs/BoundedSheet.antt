@@ -1,10 +1,13 @@
--- The bounded sheet: the words that rows of copies are written as, and how words are read back (document 01, "Bounded sheet").
--- Rests on base Lists and Copy, Words.
+-- The bounded sheet in both versions: the words that rows of copies are written as, and how words are read back (document 01, "Bounded sheet";
+-- document 02, K2). Rests on base Lists and Copy, Words, Versions.
+use mathlib.Core.Bool.{Bool, true, false}
 use mathlib.Core.List.{List, [], _∷_, _++_, map}
 use Prim.Native.Nat.{ℕ, suc, _+_, _-_, _*_}
 use lib.ListN.{length, take, drop}
+use Rattle.base.specs.Lists.{lastOf}
 use Rattle.base.specs.Copy.{Copy}
 use Rattle.formats.specs.Words.{word, field, targetFrom, nextFrom, edgesFrom}
+use Rattle.formats.specs.Versions.{isSecond, budgetsIn, largestIn}
 
 -- WRITING
 
@@ -40,26 +43,48 @@ edgeCount (r ∷ rs) = length (r .targetWords) + edgeCount rs
 abbrev pub recordWords : List Row → List ℕ
 recordWords rs = copyWords 1 rs ++ edgeWords 1 rs
 
--- "Three words: C copies, F edges, B", then the records
-unfoldable pub sheetWords : ℕ → List Row → List ℕ
-sheetWords b rs = length rs ∷ edgeCount rs ∷ b ∷ recordWords rs
+-- what a header says beside its counts: whether it is of the second version, the budgets, and for each an entry: "An entry word names the start
+-- copy for that budget, 0 if nothing fits"
+pub record Preface : Type 0 where
+  pub second : Bool
+  pub budgets : List ℕ
+  pub entries : List ℕ
+
+-- "Three words: C copies, F edges, B"; and "0, C, F, that number, the budgets, one entry word each"
+unfoldable pub headingWords : Bool → List ℕ → List ℕ → ℕ → ℕ → List ℕ
+headingWords true bs es c f = 0 ∷ c ∷ f ∷ length bs ∷ (bs ++ es)
+headingWords false bs es c f = c ∷ f ∷ lastOf bs ∷ []
+
+-- the header, then the records
+unfoldable pub sheetWords : Preface → List Row → List ℕ
+sheetWords p rs = headingWords (p .second) (p .budgets) (p .entries) (length rs) (edgeCount rs) ++ recordWords rs
 
 -- READING
 
--- what the header says: C copies, F edges, the budget, and the word at which the records begin, counted from 0
+-- what the header says of the records: C copies, F edges, the largest budget, and the word at which they begin, counted from 0
 pub record Heading : Type 0 where
   pub copies : ℕ
   pub edges : ℕ
-  pub budget : ℕ
+  pub largest : ℕ
   pub records : ℕ
 
 abbrev pub headingOf : ℕ → ℕ → ℕ → ℕ → Heading
-headingOf at c f b = record { copies = c; edges = f; budget = b; records = at }
+headingOf at c f b = record { copies = c; edges = f; largest = b; records = at }
 
 unfoldable pub heading : List ℕ → Heading
-heading s = headingOf 3 (word s 0) (word s 1) (word s 2)
+heading s = elim (isSecond s) [
+  | true ↦ headingOf (4 + 2 * word s 3) (word s 1) (word s 2) (largestIn s)
+  | false ↦ headingOf 3 (word s 0) (word s 1) (largestIn s)
+]
 
--- the length of a sheet with this header, "exactly 3 + 3C + 2F words": the three words of the header, and the records
+-- the entries; a sheet of the first version has one start copy, its first
+unfoldable pub entriesIn : List ℕ → List ℕ
+entriesIn s = elim (isSecond s) [ true ↦ take (word s 3) (drop (4 + word s 3) s) | false ↦ 1 ∷ [] ]
+
+abbrev pub prefaceIn : List ℕ → Preface
+prefaceIn s = record { second = isSecond s; budgets = budgetsIn s; entries = entriesIn s }
+
+-- the length of a sheet with this header, "exactly 3 + 3C + 2F words": the header's words, and the records
 abbrev pub boundedLength : Heading → ℕ
 boundedLength h = h .records + 3 * h .copies + 2 * h .edges
 

@@ -1,5 +1,5 @@
--- The graph sheet: its header, its records, its chains, and the conditions 1 to 8 by number (document 01, "Graph sheet" and the table).
--- Rests on base Lists and Checks, Limits, Words.
+-- The graph sheet: its header in both versions, its records, its chains, and the conditions 1 to 8 and 41 by number (document 01, "Graph sheet"
+-- and the table; document 02, K2). Rests on base Lists and Checks, Limits, Words, Versions.
 use mathlib.Core.Path.{_≡_}
 use mathlib.Core.Bool.{Bool, true, false, _||_, not}
 use mathlib.Core.List.{List, [], _∷_, _++_, map}
@@ -8,8 +8,9 @@ use lib.Dec.{ltb, eqb}
 use lib.ListN.{length}
 use Rattle.base.specs.Lists.{any, all, each, from}
 use Rattle.base.specs.Checks.{Order, refused, over, outside}
-use Rattle.formats.specs.Limits.{leastWords, leastBlocks, mostBlocks, leastEdges, mostEdges, mostBudget}
+use Rattle.formats.specs.Limits.{leastWords, leastBlocks, mostBlocks, leastEdges, mostEdges}
 use Rattle.formats.specs.Words.{word, field, chainLength, unsound, targetFrom, nextFrom, edgesFrom}
+use Rattle.formats.specs.Versions.{isSecond, badBudget, badBudgets}
 
 -- what the header says of the records: N blocks, E edges, and the word at which they begin, counted from 0
 pub record Header : Type 0 where
@@ -20,15 +21,12 @@ pub record Header : Type 0 where
 abbrev pub headerOf : ℕ → ℕ → ℕ → Header
 headerOf at n m = record { blocks = n; edges = m; records = at }
 
--- "Three words: N blocks, E edges, budget B in cycles."
+-- "Three words: N blocks, E edges, budget B in cycles."; and the second version's "0, N, E, the number of budgets, the budgets"
 unfoldable pub header : List ℕ → Header
-header w = headerOf 3 (word w 0) (word w 1)
+header w = elim (isSecond w) [ true ↦ headerOf (4 + word w 3) (word w 1) (word w 2) | false ↦ headerOf 3 (word w 0) (word w 1) ]
 
-unfoldable pub budgetIn : List ℕ → ℕ
-budgetIn w = word w 2
-
--- the length of a sheet with this header, "exactly 3 + 2N + 2E words": the three words of the header, "N block records of two words",
--- "E edge records of two words"
+-- the length of a sheet with this header, "exactly 3 + 2N + 2E words": the header's words, "N block records of two words",
+-- "E edge records of two words"; "3 .. count the new header"
 abbrev pub sheetLength : Header → ℕ
 sheetLength h = h .records + 2 * h .blocks + 2 * h .edges
 
@@ -67,7 +65,7 @@ module _ (h : Header) (w : List ℕ) where
   unfoldable pub successorCount : ℕ → ℕ
   successorCount v = chainLength nextWord (suc (h .edges)) (firstWord v)
 
--- THE CONDITIONS 1 to 8, by number
+-- THE CONDITIONS 1 to 8, by number; 4 and 41 stand in Versions
 
 -- 1: fewer than 3 words
 unfoldable pub short : List ℕ → Bool
@@ -77,17 +75,13 @@ short w = ltb (length w) leastWords
 unfoldable pub costFits : ℕ → ℕ → Bool
 costFits v c = elim (ltb v 3) [ true ↦ eqb c 0 | false ↦ ltb 0 c ]
 
--- 4: B above 500
-unfoldable pub badBudget : List ℕ → Bool
-badBudget w = ltb mostBudget (budgetIn w)
-
 -- the others, behind any header
 module _ (h : Header) (w : List ℕ) where
   -- 2: N or E outside its limit
   unfoldable pub badCounts : Bool
   badCounts = outside leastBlocks mostBlocks (h .blocks) || outside leastEdges mostEdges (h .edges)
 
-  -- 3: not exactly 3 + 2N + 2E words
+  -- 3: not exactly 3 + 2N + 2E words; "a row ending before its budgets is 3"
   unfoldable pub badLength : Bool
   badLength = not (eqb (length w) (sheetLength h))
 
@@ -121,7 +115,7 @@ abbrev pub sizeOrder : Order (List ℕ)
 sizeOrder = condition 3 badLength ∷ []
 
 abbrev pub budgetOrder : Order (List ℕ)
-budgetOrder = (4, badBudget) ∷ []
+budgetOrder = (4, badBudget) ∷ (41, badBudgets) ∷ []
 
 abbrev pub costOrder : Order (List ℕ)
 costOrder = condition 5 badCosts ∷ []

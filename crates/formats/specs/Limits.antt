@@ -24,6 +24,13 @@ mostEdges = 512
 abbrev pub mostBudget : ℕ
 mostBudget = 500
 
+-- the number of budgets (document 02, K2: "up to four budgets")
+abbrev pub leastBudgets : ℕ
+leastBudgets = 1
+
+abbrev pub mostBudgets : ℕ
+mostBudgets = 4
+
 -- N × (B + 1): a cell for each block and each number of cycles
 abbrev pub mostCells : ℕ
 mostCells = mostBlocks * suc mostBudget

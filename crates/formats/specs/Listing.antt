@@ -1,10 +1,11 @@
 -- The text of a listing, in bytes (document 01, "Ribbon example and edges"): lines of words parted by single spaces, each ended by a newline.
--- Rests on base Lists, BoundedSheet.
+-- Rests on base Lists, Versions, BoundedSheet.
 use mathlib.Core.Bool.{true, false}
 use mathlib.Core.List.{List, [], _∷_, _++_, map}
 use Prim.Native.Nat.{ℕ, zero, suc, _+_, _/_, _%_}
 use lib.Dec.{ltb}
 use Rattle.base.specs.Lists.{each, from}
+use Rattle.formats.specs.Versions.{budgetsIn}
 use Rattle.formats.specs.BoundedSheet.{heading, blockAt, lowAt, targetsAt}
 
 -- a number in decimal digits, at most k of them
@@ -41,10 +42,10 @@ budgetText = 98 ∷ 117 ∷ 100 ∷ 103 ∷ 101 ∷ 116 ∷ []
 abbrev pub refusedText : List ℕ
 refusedText = 114 ∷ 101 ∷ 102 ∷ 117 ∷ 115 ∷ 101 ∷ 100 ∷ []
 
--- "one heading line with C, F and B"
+-- "one heading line with C, F and B"; "The listing's heading gives all budgets after `budget`"
 unfoldable pub headingLine : List ℕ → List ℕ
 headingLine s =
-    line (copiesText ∷ decimal (heading s .copies) ∷ edgesText ∷ decimal (heading s .edges) ∷ budgetText ∷ decimal (heading s .budget) ∷ [])
+    line (copiesText ∷ decimal (heading s .copies) ∷ edgesText ∷ decimal (heading s .edges) ∷ budgetText ∷ map decimal (budgetsIn s))
 
 -- "for each copy its number, block, low and targets in chain order"
 unfoldable pub copyLine : List ℕ → ℕ → List ℕ
