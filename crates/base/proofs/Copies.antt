@@ -6,14 +6,16 @@ use mathlib.Core.Bool.{Bool, true, false, _&&_}
 use mathlib.Core.List.{List, [], _∷_, _++_, map, List·Memᴰ, List·Memᴰ·head, List·Memᴰ·tail, List·Memᴰ·not-nil, List·Memᴰ·cases-cons}
 use mathlib.Core.List.{List·Memᴰ·append-cases, Memᴰ·of-map, Memᴰ·cast}
 use mathlib.Core.Option.{some, Option·none-ne-some, Option·some-injective}
-use Prim.Native.Nat.{ℕ, zero, suc, _+_, _<_}
+use Prim.Native.Nat.{ℕ, zero, suc, _+_, _≤_, _<_}
 use native.Mathlib.Omega.{arith}
+use native.Mathlib.Decide.{ℕ-discrete}
 use borrow.Author.Tests.{eqb-true, eq-eqb, ltb-true, lt-ltb}
 use lib.Dec.{eqb, ltb}
+use lib.ListN.{length}
 use Rattle.base.specs.Lists.{keep, from, chosen}
 use Rattle.base.specs.Copy.{Copy, copyOf, same, before, isIn, numberFrom}
 use Rattle.base.proofs.Truth.{not-both, and-i, and-e, or-l, or-r, or-e, any-i, any-e}
-use Rattle.base.proofs.Lists.{keep-e, from-e, chosen-mem, Distinct}
+use Rattle.base.proofs.Lists.{keep-e, from-e, chosen-mem, chosen-le, Distinct}
 
 -- the test of two copies is their equality
 pub same-is : (c d : Copy) → same c d ≡ true → c ≡ d
@@ -120,6 +122,49 @@ pub rising-distinct : (cs : List Copy) → Rising cs → Distinct cs
 unfolding Rising Distinct
 rising-distinct [] h = tt
 rising-distinct (c ∷ cs) h = (λ m. not-before c (h .0 c m), rising-distinct cs (h .1))
+
+-- THE COPIES OF BLOCK 1 are the first k of rising ones
+pub record FirstOf (cs : List Copy) (k : ℕ) : Type 0 where
+  pub most : k ≤ length cs
+  pub is : (i : ℕ) (c : Copy) → chosen cs i ≡ some c → i ≤ k → c .block ≡ 1
+  pub only : (i : ℕ) (c : Copy) → chosen cs i ≡ some c → c .block ≡ 1 → i ≤ k
+
+pub first-of : (cs : List Copy) → Rising cs → ((c : Copy) → List·Memᴰ c cs → 1 ≤ c .block) → (k : ℕ) × FirstOf cs k
+unfolding Rising chosen
+first-of [] h above = (0, record {
+  most = omega arith;
+  is = λ i c q l. absurd (omega (arith, chosen-le [] i c q));
+  only = λ i c q e. omega (arith, chosen-le [] i c q);
+})
+first-of (d ∷ ds) h above = go (ℕ-discrete (d .block) 1) (first-of ds (h .1) (λ c m. above c (List·Memᴰ·tail m)))
+  where
+    go : Dec (d .block ≡ 1) → (k : ℕ) × FirstOf ds k → (k : ℕ) × FirstOf (d ∷ ds) k
+    go (yes e) r = (suc (r .0), record {
+      most = omega (arith, r .1 .most);
+      is = λ i c. elim i [
+        | zero ↦ λ q l. absurd (Option·none-ne-some c q)
+        | suc i ↦ elim i [
+          | zero ↦ λ q l. ap (λ (x : Copy). x .block) (sym (Option·some-injective d c q)) ∙ e
+          | suc j ↦ λ q l. r .1 .is (suc j) c q (omega arith)
+        ]
+      ];
+      only = λ i c. elim i [
+        | zero ↦ λ q b. absurd (Option·none-ne-some c q)
+        | suc i ↦ elim i [ zero ↦ λ q b. omega arith | suc j ↦ λ q b. omega (arith, r .1 .only (suc j) c q b) ]
+      ];
+    })
+    go (no n) r = (0, record {
+      most = omega arith;
+      is = λ i c q l. absurd (omega (arith, chosen-le (d ∷ ds) i c q));
+      only = λ i c q b. absurd (later i c q b);
+    })
+      where
+        later : (i : ℕ) (c : Copy) → chosen (d ∷ ds) i ≡ some c → c .block ≡ 1 → ⊥
+        later zero c q b = Option·none-ne-some c q
+        later (suc zero) c q b = n (ap (λ (x : Copy). x .block) (Option·some-injective d c q) ∙ b)
+        later (suc (suc j)) c q b =
+            let l = above d (List·Memᴰ·head refl) in
+            ⊎-elim (λ x. omega arith) (λ x. n (x .0 ∙ b)) (before-cases d c (h .0 c (chosen-mem ds (suc j) c q)))
 
 -- PLACES
 

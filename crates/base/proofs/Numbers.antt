@@ -3,7 +3,7 @@
 use mathlib.Core.Path.{_≡_, refl, sym, ap, _∙_}
 use mathlib.Core.Logic.{⊎-elim}
 use mathlib.Core.Bool.{true}
-use mathlib.Core.List.{List, [], _∷_, List·Memᴰ, List·Memᴰ·head, List·Memᴰ·tail, List·Memᴰ·not-nil, List·Memᴰ·cases-cons}
+use mathlib.Core.List.{List, [], _∷_, map, List·Memᴰ, List·Memᴰ·head, List·Memᴰ·tail, List·Memᴰ·not-nil, List·Memᴰ·cases-cons, List·Memᴰ·eq-of-singleton}
 use Prim.Native.Nat.{ℕ, zero, suc, _-_, _≤_}
 use native.Mathlib.Omega.{arith}
 use borrow.Author.Tests.{ltb-true}
@@ -45,3 +45,35 @@ nth-of x (List·Memᴰ·tail {x = y} {xs = ys} m) =
     let k = r .0 in
     let i : suc k - 1 ≡ suc (k - 1) = omega (arith, r .1) in
     (suc k, omega arith, omega (arith, r .2), ap (λ (n : ℕ). getD (y ∷ ys) n 0) i ∙ r .3)
+
+-- a list with a member is not empty
+pub member-some : {A : Type 0} {x : A} {xs : List A} → List·Memᴰ x xs → 1 ≤ length xs
+member-some (List·Memᴰ·head e) = omega arith
+member-some (List·Memᴰ·tail m) = omega arith
+
+-- THE K-TH AND THE LAST of a list that is made from another
+pub nth-map : (f : ℕ → ℕ) (xs : List ℕ) (k : ℕ) → 1 ≤ k → k ≤ length xs → nth (map f xs) k ≡ f (nth xs k)
+nth-map f [] k p q = absurd (omega arith)
+nth-map f (x ∷ xs) zero p q = absurd (omega arith)
+nth-map f (x ∷ xs) (suc zero) p q = refl
+nth-map f (x ∷ xs) (suc (suc k)) p q =
+    let i : suc (suc k) - 1 ≡ suc (suc k - 1) = omega arith in rw i (nth-map f xs (suc k) (omega arith) (omega arith))
+
+pub last-map : (f : ℕ → ℕ) (xs : List ℕ) → 1 ≤ length xs → lastOf (map f xs) ≡ f (lastOf xs)
+unfolding lastOf
+last-map f [] p = absurd (omega arith)
+last-map f (x ∷ []) p = refl
+last-map f (x ∷ y ∷ ys) p = last-map f (y ∷ ys) (omega arith)
+
+-- the only number of a list is its first and its last
+pub one-last : (xs : List ℕ) → length xs ≡ 1 → nth xs 1 ≡ lastOf xs
+unfolding lastOf
+one-last [] e = absurd (omega arith)
+one-last (x ∷ []) e = refl
+one-last (x ∷ y ∷ xs) e = absurd (omega arith)
+
+-- and a list of one that has a member is that member
+pub one-member : (xs : List ℕ) (x : ℕ) → length xs ≡ 1 → List·Memᴰ x xs → xs ≡ x ∷ []
+one-member [] x e m = absurd (omega arith)
+one-member (y ∷ []) x e m = ap (λ (z : ℕ). z ∷ []) (sym (List·Memᴰ·eq-of-singleton m))
+one-member (y ∷ z ∷ ys) x e m = absurd (omega arith)

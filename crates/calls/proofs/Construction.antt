@@ -2,33 +2,31 @@
 -- Rests on theory Reach, formats Reading and RuleRead, SettingRows, Built.
 use mathlib.Core.Path.{_≡_, refl, sym, ap, subst, _∙_}
 use mathlib.Core.Logic.{_≢_}
+use mathlib.Core.Bool.{false}
 use mathlib.Core.List.{List, [], _∷_, map, List·Memᴰ}
 use mathlib.Core.Option.{Option, some, none, Option·map}
 use Prim.Native.Nat.{ℕ, suc, _+_, _-_, _<_}
 use native.Mathlib.Omega.{arith}
 use lib.ListN.{length, length-map}
-use Rattle.base.specs.Lists.{any, chosen}
-use Rattle.base.specs.Copy.{Copy, copyOf, isIn, numberFrom}
-use Rattle.base.proofs.Lists.{chosen-map, chosen-mem, chosen-le, chosen-some, choice-of}
+use Rattle.base.specs.Lists.{chosen, nth}
+use Rattle.base.specs.Copy.{Copy, copyOf, numberFrom}
+use Rattle.base.proofs.Lists.{chosen-map, chosen-mem, chosen-le, chosen-some, choice-of, one-place}
+use Rattle.base.proofs.Numbers.{nth-in, nth-of, nth-map, one-last}
 use Rattle.base.proofs.Copies.{rising-chosen, number-chosen}
 use Rattle.theory.specs.Completions.{Graph, Completion, IsLow, NoLow, lowOf}
-use Rattle.theory.specs.Copies.{targets, copyFor, add, join, startCopies, targetNumber, Reached}
-use Rattle.theory.specs.Setting.{Setting, copies}
+use Rattle.theory.specs.Copies.{targets, copyFor, targetNumber}
+use Rattle.theory.specs.Setting.{Setting, starts, copies, exitCopy}
 use Rattle.theory.proofs.Completions.{low-some, is-low, no-low, exit-cost, covers, serves}
-use Rattle.theory.proofs.Reach.{target-mem, edge-target, targets-in, reached-in, in-reached, copy-sound}
-use Rattle.formats.specs.GraphSheet.{budgetIn}
-use Rattle.formats.specs.BoundedSheet.{sheetWords, heading, boundedLength, copyAt, targetsAt}
-use Rattle.formats.proofs.Reading.{laid, Reads, reads}
+use Rattle.theory.proofs.Reach.{target-mem, edge-target, start-i, targets-in, reached-in, in-reached, copy-sound, entry-of, exit-only}
+use Rattle.formats.specs.Versions.{isSecond, budgetsIn, largestIn}
+use Rattle.formats.specs.BoundedSheet.{heading, boundedLength, copyAt, targetsAt}
+use Rattle.formats.proofs.Reading.{Laid, Reads, reads}
 use Rattle.formats.proofs.RuleRead.{clauses}
-use Rattle.calls.specs.SheetGraph.{graph, rowOf, rowsOf, sheetCopies, boundedSheet}
-use Rattle.calls.specs.Construction.{IsPlace, Demand2}
-use Rattle.calls.proofs.SettingRows.{row-at, rises, its-target}
-use Rattle.calls.proofs.Built.{Buildable, setting, first-place, last-place, keeps-rule, words-fit-16}
-
--- the start copies of one budget are one copy
-one-start : (g : Graph) (b a : ℕ) → lowOf g 1 b ≡ some a → startCopies g (b ∷ []) ≡ copyOf 1 a ∷ []
-unfolding startCopies copyFor join add isIn any
-one-start g b a e = ap (λ (o : Option ℕ). join (Option·map (copyOf 1) o ∷ []) []) e
+use Rattle.calls.specs.SheetGraph.{task, graph, rowOf, rowsOf, entryFor, sheetCopies, boundedSheet, readBounded}
+use Rattle.calls.specs.Construction.{IsBudget, entry, IsPlace, Demand2}
+use Rattle.calls.proofs.SettingRows.{row-at, rises, apart, its-target, exit-here, entry-some, entry-none}
+use Rattle.calls.proofs.Built.{Buildable, setting, first-starts, exit-behind, first-version, sheet-laid, version-back, budgets-back}
+use Rattle.calls.proofs.Built.{entries-back, last-is, keeps-rule, words-fit-16}
 
 module _ (w : List ℕ) (K : Buildable w) where
   abbrev g : Graph
@@ -45,14 +43,14 @@ module _ (w : List ℕ) (K : Buildable w) where
         → targetsAt (heading t) t i ≡ map (targetNumber (sheetCopies w)) (targets (graph w) c)
 
   pub copied : Copied (boundedSheet w)
-  unfolding sheetCopies boundedSheet sheetWords heading rowOf rowsOf copyAt
+  unfolding sheetCopies rowOf rowsOf copyAt
   copied =
       let t = boundedSheet w in
       let rs = rowsOf g (copies S) in
       let row : (i : ℕ) (c : Copy) → chosen (copies S) i ≡ some c → Reads (heading t) t rs i (rowOf g (copies S) c)
-      = λ i c q. reads (heading t) t rs (laid (budgetIn w) rs) i (rowOf g (copies S) c) (row-at S i c q) in
+      = λ i c q. reads (heading t) t rs (sheet-laid w K) i (rowOf g (copies S) c) (row-at S i c q) in
       record {
-        copies = length-map (copies S) (rowOf g (copies S));
+        copies = sheet-laid w K .copies ∙ length-map (copies S) (rowOf g (copies S));
         record-is = λ i c q. let r = row i c q in λ j. record { block = r .block j; low = r .low j };
         edges-are = λ i c q. row i c q .targets;
       }
@@ -144,8 +142,56 @@ module _ (w : List ℕ) (K : Buildable w) where
       ap length (A .edges) ∙ length-map (targets g (A .copy)) (targetNumber cs)
       ∙ length-map (g .next (A .copy .block)) (copyFor g (A .copy .low - g .cost (A .copy .block)))
 
-  from-start : startCopies g (budgetIn w ∷ []) ≡ copyOf 1 (K .start) ∷ []
-  from-start = one-start g (budgetIn w) (K .start) (K .opens)
+  -- THE ENTRIES
+  abbrev bs : List ℕ
+  bs = budgetsIn w
+
+  entry-is : (k : ℕ) → IsBudget w t k → entry w t k ≡ entryFor (task w) (nth bs k)
+  entry-is k p = ap (λ (l : List ℕ). nth l k) (entries-back w K) ∙ nth-map (entryFor (task w)) bs k (p .0) (p .1)
+
+  names : (k a : ℕ) → IsBudget w t k → IsLow g 1 (nth bs k) a
+      → IsPlace w t (entry w t k) × (copyAt (heading t) t (entry w t k) ≡ copyOf 1 a)
+  names k a p h =
+      let e = entry-some S (nth bs k) a (nth-in bs k (p .0) (p .1)) (is-low g (S .laws) h) in
+      let here : chosen cs (entry w t k) ≡ some (copyOf 1 a) = ap (chosen cs) (entry-is k p) ∙ e .1 in
+      (place-of _ _ here, read-at _ _ here)
+
+  -- the start copies are those of the budgets
+  its-budget : (c : Copy) → List·Memᴰ c (starts S) → (c .block ≡ 1) × ((k : ℕ) × IsBudget w t k × IsLow g 1 (nth bs k) (c .low))
+  its-budget c m =
+      let E = entry-of S c m in
+      let k = nth-of (E .0 .budget) (E .0 .named) in
+      let low : IsLow g 1 (E .0 .budget) (E .0 .low) = low-some g (S .laws) 1 (E .0 .budget) (E .0 .low) (E .0 .fits) in (
+        sym (ap (λ (c : Copy). c .block) (E .1)),
+        (
+          k .0,
+          (k .1, k .2),
+          subst (λ (b : ℕ). IsLow g 1 b (c .low)) (sym (k .3)) (subst (IsLow g 1 (E .0 .budget)) (ap (λ (c : Copy). c .low) (E .1)) low),
+        ),
+      )
+
+  of-budget : (c : Copy) → c .block ≡ 1 → (k : ℕ) → IsBudget w t k → IsLow g 1 (nth bs k) (c .low) → List·Memᴰ c (starts S)
+  of-budget c e k p h =
+      subst (λ (d : Copy). List·Memᴰ d (starts S)) (λ i. record { block = sym e i; low = c .low })
+      (start-i g bs (nth bs k) (c .low) (nth-in bs k (p .0) (p .1)) (is-low g (S .laws) h))
+
+  -- THE EXIT
+  last-at : chosen cs (readBounded t .last) ≡ some (exitCopy S)
+  last-at = ap (chosen cs) (last-is w K) ∙ exit-here S
+
+  last-alone : (i : ℕ) (A : At i) → A .copy .block ≡ 2 → i ≡ readBounded t .last
+  last-alone i A e = one-place cs (apart S) i _ (exitCopy S) (A .chosen-is ∙ ap some (exit-only S (A .copy) (A .member) e)) last-at
+
+  -- in the first version the one start copy stands first, and the exit second
+  in-order : isSecond w ≡ false → (copyAt (heading t) t 1 ≡ copyOf 1 (K .start)) × (readBounded t .last ≡ 2)
+  in-order v =
+      let f = first-version w K v in
+      let low : IsLow g 1 (nth bs 1) (K .start) = low-some g (S .laws) 1 _ (K .start) (ap (lowOf g 1) (one-last bs (f .0)) ∙ K .opens) in
+      let e : entry w t 1 ≡ 1 = ap (λ (l : List ℕ). nth l 1) (entries-back w K ∙ f .1) in
+      (
+        subst (λ (x : ℕ). copyAt (heading t) t x ≡ copyOf 1 (K .start)) e (names 1 (K .start) (omega arith, omega (arith, f .0)) low .1),
+        last-is w K ∙ f .2,
+      )
 
   -- what is said of a record's copy holds of the copy that it is
   module _ {i : ℕ} (A : At i) where
@@ -156,10 +202,6 @@ module _ (w : List ℕ) (K : Buildable w) where
         → A .copy .low ≡ g .cost (A .copy .block) + r
     cost-at r e =
         sym (ap (λ (c : Copy). c .low) (A .read)) ∙ e ∙ ap (λ (c : Copy). g .cost (c .block) + r) (A .read)
-
-  budget-is : heading t .budget ≡ budgetIn w
-  unfolding boundedSheet sheetWords heading
-  budget-is = refl
 
   size-is : length t ≡ boundedLength (heading t)
   size-is = clauses t (keeps-rule w K) .ruled .form .size
@@ -172,8 +214,12 @@ module _ (w : List ℕ) (K : Buildable w) where
             subst (λ (c : Copy). Completion g (c .block) (c .low)) (sym (A .read)) (copy-sound S (A .copy) (A .member) .1 .cost);
         serves = λ i r v x y a p h m e f.
             serves g (S .laws) (copyAt (heading t) t i .block) v r (copyAt (heading t) t i .low) m h e f a;
+        entry-fits = names;
+        entry-none = λ k p n. entry-is k p ∙ entry-none S (nth bs k) (no-low g (S .laws) n);
         start = K .start;
-        start-low = low-some g (S .laws) 1 (budgetIn w) (K .start) (K .opens);
+        start-low = low-some g (S .laws) 1 (largestIn w) (K .start) (K .opens);
+        starts = starts S;
+        starts-are = λ c. (its-budget c, λ p. of-budget c (p .0) (p .1 .0) (p .1 .1) (p .1 .2));
         choices = λ i p.
             let A = at i p in
             length-at i A ∙ sym (ap (λ (c : Copy). length (g .next (c .block))) (A .read));
@@ -186,10 +232,9 @@ module _ (w : List ℕ) (K : Buildable w) where
         reached = λ c. (
           λ r.
               let A = at (r .0) (r .1) in
-              subst (λ (l : List Copy). (j : ℕ) × Reached g l j c) from-start
-              (in-reached S c (subst (λ (d : Copy). List·Memᴰ d cs) (sym (A .read) ∙ r .2) (A .member))),
+              in-reached S c (subst (λ (d : Copy). List·Memᴰ d cs) (sym (A .read) ∙ r .2) (A .member)),
           λ r.
-              let m = reached-in S (r .0) c (subst (λ (l : List Copy). Reached g l (r .0) c) (sym from-start) (r .1)) in
+              let m = reached-in S (r .0) c (r .1) in
               let k = choice-of m in
               (suc (k .0), place-of (suc (k .0)) c (k .1), read-at (suc (k .0)) c (k .1)),
         );
@@ -197,16 +242,24 @@ module _ (w : List ℕ) (K : Buildable w) where
             let A = at i p in
             let x : copyAt (heading t) t n .low < A .copy .low = falls-at i n A m z (rw (A .read) at o) in
             omega (arith, ap (λ (c : Copy). c .low) (A .read));
+        behind = λ i n p m z e.
+            let A = at i p in
+            let d = its-target S (A .copy) (A .member) n (subst (List·Memᴰ n) (A .edges) m) z in
+            let two = S .laws .above (A .copy .block) (d .0 .block) (target-mem g (A .copy) (d .0) (d .1) .0) in
+            absurd (omega (arith, ap (λ (c : Copy). c .block) (read-at n (d .0) (d .2)), e));
         exit = λ c d. exit-cost g (S .laws) d refl;
-        budget = budget-is;
+        version = version-back w K;
+        budgets = budgets-back w K;
+        entries = ap length (entries-back w K) ∙ length-map bs (entryFor (task w));
         size = size-is;
         rising = λ i j p l q.
             let A = at i (p, omega arith) in
             let C = at j (omega arith, q) in
             rw (A .read, C .read) (rising-chosen cs (rises S) i j (A .copy) (C .copy) l (A .chosen-is) (C .chosen-is));
-        two = place-of 2 _ (last-place w K) .1;
-        first = read-at 1 _ (first-place w K);
-        second = read-at 2 _ (last-place w K);
+        two = let p = place-of _ _ last-at in omega (arith, p .1, last-is w K, exit-behind w K, first-starts w K);
+        last = (place-of _ _ last-at, read-at _ _ last-at);
+        last-only = λ i p e. let A = at i p in last-alone i A (sym (ap (λ (c : Copy). c .block) (A .read)) ∙ e);
+        first = in-order;
         rule = keeps-rule w K;
         words-fit = words-fit-16 w K;
       }

@@ -1,32 +1,46 @@
 -- DEMANDS 2 AND 3, from the build's answer 0 alone.
--- Rests on theory Agreement and Shape, Weigh, Built, Construction, Moves, Area.
-use mathlib.Core.Path.{_≡_, sym, ap, subst, _∙_}
+-- Rests on theory Agreement, Shape and Stopped, Weigh, SettingRows, Built, Construction, Moves, Area.
+use mathlib.Core.Path.{_≡_, refl, sym, ap, subst, _∙_}
 use mathlib.Core.Logic.{_↔_}
+use mathlib.Core.Bool.{false}
 use mathlib.Core.List.{List, map, map-id, List·Memᴰ}
+use mathlib.Core.Option.{Option, some, none}
 use Prim.Native.Nat.{ℕ, suc, _≤_}
 use native.Mathlib.Omega.{arith}
 use borrow.Author.Tests.{ltb-false}
 use lib.ListN.{length, take}
+use Rattle.base.specs.Lists.{chosen, nth}
+use Rattle.base.specs.Checks.{refused, lentAfter}
 use Rattle.base.proofs.Truth.{or-false}
-use Rattle.base.proofs.Orders.{unrefused, over-e}
+use Rattle.base.proofs.Numbers.{nth-in, nth-map, one-last}
+use Rattle.base.proofs.Copies.{number-place}
+use Rattle.base.proofs.Orders.{unrefused, passed, none-left, over-i, over-e, not-outside}
+use Rattle.theory.specs.Completions.{lowOf}
 use Rattle.theory.specs.Machines.{End, going, exit, diverted, Reply, reply, answers, final, zeros, Unchanged}
-use Rattle.theory.specs.Walks.{Walk, startAt, starting, mostMoves, InShape, monitor, Bounded, boundedWalk, Path}
-use Rattle.theory.specs.Setting.{Setting, Entry, entryPlace, LaysOut, Agrees, PathsKept}
+use Rattle.theory.specs.Walks.{Walk, startAt, starting, stopped, mostMoves, InShape, monitor, Bounded, boundedWalk, Path}
+use Rattle.theory.specs.Setting.{Setting, Entry, copies, startCopy, entryPlace, LaysOut, Agrees, PathsKept}
 use Rattle.theory.proofs.Runs.{RunsAs, runs-as, unchanged-as, keeps-all}
+use Rattle.theory.proofs.Reach.{start-in}
 use Rattle.theory.proofs.Agreement.{agrees, paths-kept}
 use Rattle.theory.proofs.Monitor.{monitor-acts}
 use Rattle.theory.proofs.Shape.{most-fits, monitor-kept, monitor-start, Held, held-shape, held-kept, held-start}
+use Rattle.theory.proofs.Stopped.{monitor-stopped, bounded-stopped, stopped-agrees, stopped-paths}
 use Rattle.formats.specs.Limits.{mostCopies, mostBoundedEdges}
-use Rattle.formats.specs.GraphSheet.{budgetIn, header}
-use Rattle.formats.specs.BoundedSheet.{heading, sheetWords}
-use Rattle.calls.specs.SheetGraph.{task, graph, boundedSheet, readBounded}
+use Rattle.formats.specs.Versions.{isSecond, budgetsIn}
+use Rattle.formats.specs.GraphSheet.{header}
+use Rattle.formats.specs.BoundedSheet.{entriesIn}
+use Rattle.formats.specs.Rule11.{boundedOrder, boundedRefusal}
+use Rattle.formats.proofs.RuleKept.{bounded-numbered}
+use Rattle.calls.specs.SheetGraph.{task, graph, entryFor, boundedSheet, readBounded}
 use Rattle.calls.specs.Weigh.{taskArea, weighOrder}
 use Rattle.calls.specs.Build.{tooMany, Lent, buildOrder, outputAfter, build}
-use Rattle.calls.specs.Moves.{Move, guardedReply, boundedMove}
-use Rattle.calls.specs.Demand.{byValue, boundedBlock, Demand3, KeepsDemand3}
+use Rattle.calls.specs.Moves.{Budgeted, budgeted, startingWalk, replyWith, Move, guardedReply, boundedMove}
+use Rattle.calls.specs.Starts.{setsOut, graphStart, entersAt, OutsetOn, guardedStartOrder, guardedStart, NumberOn, boundedStartOrder, boundedStart}
+use Rattle.calls.specs.Demand.{startReply, byValue, boundedBlock, Demand3, RoomFor, StartsAndKeeps, KeepsDemand3, KeepsFromStart}
 use Rattle.calls.specs.Construction.{builtWords, Demand2, KeepsDemand2}
-use Rattle.calls.proofs.Weigh.{weigh-numbered, weighs-e}
-use Rattle.calls.proofs.Built.{Buildable, setting, entry, entry-first, sheet-lays-out, keeps-rule}
+use Rattle.calls.proofs.Weigh.{weigh-numbered, weighs, weighs-e}
+use Rattle.calls.proofs.SettingRows.{entry-some, entry-none}
+use Rattle.calls.proofs.Built.{Buildable, setting, first-version, budgets-back, entries-back, sheet-lays-out, keeps-rule}
 use Rattle.calls.proofs.Construction.{demand2}
 use Rattle.calls.proofs.Moves.{guarded-as, bounded-as}
 use Rattle.calls.proofs.Area.{output-words}
@@ -44,8 +58,8 @@ module _ (w : List ℕ) (K : Buildable w) where
   abbrev N : ℕ
   N = header w .blocks
 
-  abbrev B : ℕ
-  B = budgetIn w
+  abbrev bs : List ℕ
+  bs = budgetsIn w
 
   abbrev t : List ℕ
   t = boundedSheet w
@@ -56,106 +70,190 @@ module _ (w : List ℕ) (K : Buildable w) where
   abbrev S : Setting
   S = setting w K
 
-  abbrev E : Entry (setting w K)
-  E = entry w K
-
   abbrev Y : LaysOut (setting w K) (readBounded (boundedSheet w))
   Y = sheet-lays-out w K
 
-  monitor-shape : (ks : List ℕ) → InShape N 2 B (final (reply (monitor (graph w) B)) starting ks)
-  monitor-shape ks = keeps-all (monitor (graph w) B) (InShape N 2 B) (monitor-kept S B) ks starting (monitor-start S B)
+  -- WITH ONE BUDGET NUMBER n, from a monitor's start z and a bounded walk's start v that keep the promises; H holds of a bounded walk all along
+  module _ (n : ℕ) (p : 1 ≤ n) (q : n ≤ length bs) (z v : Walk) (fair : InShape N 2 (nth bs n) z) (H : Walk → Type 0)
+      (shape : (s : Walk) → H s → InShape (m .size) (m .last) (mostMoves (nth bs n) (s .end)) s)
+      (kept : (s : Walk) → H s → boundedWalk m .stands s ≡ going → (k x : ℕ) → chosen (boundedWalk m .targets s) k ≡ some x
+      → H (boundedWalk m .take s x))
+      (begins : H v) (agreed : (ks : List ℕ) → Agrees S m (nth bs n) z v ks) (paths : PathsKept S m (nth bs n) v) where
+    abbrev B : ℕ
+    B = nth bs n
 
-  guarded-run : (ms : List Move) → ((i : Move) → List·Memᴰ i ms → taskArea (task w) ≤ length (i .area))
-      → RunsAs (guardedReply w) (reply (monitor (graph w) B)) starting ms (map (λ i. i .choice) ms)
-  guarded-run ms room =
-      runs-as (monitor (graph w) B) (guardedReply w) (λ i. i .choice) (InShape N 2 B) (λ i. taskArea (task w) ≤ length (i .area)) (monitor-kept S B)
-      (λ s h i room. guarded-as w i s (K .start) (K .ok) room (K .opens) h) ms room starting (monitor-start S B)
+    abbrev with : Walk → Budgeted
+    with = budgeted n
 
-  abbrev pub OnCopies : Walk → Type 0
-  OnCopies = Held S m Y E
+    monitor-shape : (ks : List ℕ) → InShape N 2 B (final (reply (monitor (graph w) B)) z ks)
+    monitor-shape ks = keeps-all (monitor (graph w) B) (InShape N 2 B) (monitor-kept S B) ks z fair
 
-  at-start : startAt (entryPlace S E) ≡ starting
-  at-start = ap startAt (entry-first w K)
+    guarded-run : (ms : List Move) → RoomFor w ms
+        → RunsAs with (guardedReply w) (reply (monitor (graph w) B)) z ms (map (λ i. i .choice) ms)
+    guarded-run ms room =
+        runs-as (monitor (graph w) B) with (guardedReply w) (λ i. i .choice) (InShape N 2 B) (λ i. taskArea (task w) ≤ length (i .area))
+        (monitor-kept S B) (λ s h i room. guarded-as w i (with s) (K .start) (K .ok) room (K .opens) p q h) ms room z fair
 
-  on-start : OnCopies starting
-  on-start = subst OnCopies at-start (held-start S m Y E)
+    -- the sheet's own budgets are those of the graph
+    abbrev Shaped : List ℕ → Walk → Type 0
+    Shaped l s = InShape (m .size) (m .last) (mostMoves (nth l n) (s .end)) s
 
-  pub in-shape : (s : Walk) → OnCopies s → InShape (m .size) (m .last) (mostMoves (heading t .budget) (s .end)) s
-  unfolding readBounded heading boundedSheet sheetWords
-  in-shape s h = held-shape S m Y E s h
+    bounded-step : (s : Walk) → H s → (k : ℕ) → boundedMove t (with s) k ≡ replyWith n (reply (boundedWalk m) s k)
+    bounded-step s h k =
+        bounded-as t (with s) k (keeps-rule w K) p (omega (arith, ap length (budgets-back w K)))
+        (subst (λ (l : List ℕ). Shaped l s) (sym (budgets-back w K)) (shape s h))
 
-  pub bounded-run : (ks : List ℕ) → RunsAs (boundedMove t) (reply (boundedWalk m)) starting ks ks
-  bounded-run ks =
-      subst (λ (l : List ℕ). RunsAs (boundedMove t) (reply (boundedWalk m)) starting ks l) (map-id ks)
-      (runs-as (boundedWalk m) (boundedMove t) (λ k. k) OnCopies (λ k. Unit {0}) (held-kept S m Y E)
-      (λ s h k u. bounded-as t s k (keeps-rule w K) (in-shape s h)) ks (λ k i. tt) starting on-start)
+    bounded-run : (ks : List ℕ) → RunsAs with (boundedMove t) (reply (boundedWalk m)) v ks ks
+    bounded-run ks =
+        subst (λ (l : List ℕ). RunsAs with (boundedMove t) (reply (boundedWalk m)) v ks l) (map-id ks)
+        (runs-as (boundedWalk m) with (boundedMove t) (λ k. k) H (λ k. Unit {0}) kept (λ s h k u. bounded-step s h k) ks (λ k i. tt) v begins)
 
-  pub on-end : (ks : List ℕ) → OnCopies (final (reply (boundedWalk m)) starting ks)
-  on-end ks = keeps-all (boundedWalk m) OnCopies (held-kept S m Y E) ks starting on-start
+    held-end : (ks : List ℕ) → H (final (reply (boundedWalk m)) v ks)
+    held-end ks = keeps-all (boundedWalk m) H kept ks v begins
 
-  -- the promises of the theory, from the starting walk
-  agreed : (ks : List ℕ) → Agrees S m B starting starting ks
-  agreed ks = subst (λ (z : Walk). Agrees S m B starting z ks) at-start (agrees S m Y E ks)
+    -- while going, the choice 1 is answered 0
+    guarded-next : (ks : List ℕ) (x : Budgeted) → x ≡ with (final (reply (monitor (graph w) B)) z ks) → x .walk .end ≡ going
+        → (area : List ℕ) → taskArea (task w) ≤ length area → guardedReply w x (record { choice = 1; area = area }) .answer ≡ 0
+    guarded-next ks x e g area room =
+        let i : Move = record { choice = 1; area = area } in
+        ap (λ (s : Budgeted). guardedReply w s i .answer) e
+        ∙ ap (λ (r : Reply Budgeted). r .answer) (guarded-as w i (with _) (K .start) (K .ok) room (K .opens) p q (monitor-shape ks))
+        ∙ agreed ks .monitor-onward (sym (ap (λ (s : Budgeted). s .walk .end) e) ∙ g)
 
-  paths : PathsKept S m B starting
-  paths = subst (PathsKept S m B) at-start (paths-kept S m Y E)
+    bounded-next : (ks : List ℕ) (x : Budgeted) → x ≡ with (final (reply (boundedWalk m)) v ks) → x .walk .end ≡ going
+        → boundedMove t x 1 .answer ≡ 0
+    bounded-next ks x e g =
+        ap (λ (s : Budgeted). boundedMove t s 1 .answer) e
+        ∙ ap (λ (r : Reply Budgeted). r .answer) (bounded-step _ (held-end ks) 1)
+        ∙ agreed ks .bounded-onward (sym (ap (λ (s : Budgeted). s .walk .end) e) ∙ g)
 
-  -- while going, the choice 1 is answered 0
-  guarded-next : (ks : List ℕ) (z : Walk) → z ≡ final (reply (monitor (graph w) B)) starting ks → z .end ≡ going
-      → (area : List ℕ) → taskArea (task w) ≤ length area → guardedReply w z (record { choice = 1; area = area }) .answer ≡ 0
-  guarded-next ks z q e area room =
-      let i : Move = record { choice = 1; area = area } in
-      ap (λ (s : Walk). guardedReply w s i .answer) q
-      ∙ ap (λ (r : Reply Walk). r .answer) (guarded-as w i _ (K .start) (K .ok) room (K .opens) (monitor-shape ks))
-      ∙ agreed ks .monitor-onward (sym (ap (λ (s : Walk). s .end) q) ∙ e)
+    most-of : (x : Walk) (e : End) → x .end ≡ e → x .count ≤ mostMoves B (x .end) → x .count ≤ mostMoves B e
+    most-of x e p l = subst (λ (y : End). x .count ≤ mostMoves B y) p l
 
-  bounded-next : (ks : List ℕ) (z : Walk) → z ≡ final (reply (boundedWalk m)) starting ks → z .end ≡ going → boundedMove t z 1 .answer ≡ 0
-  bounded-next ks z q e =
-      ap (λ (s : Walk). boundedMove t s 1 .answer) q
-      ∙ ap (λ (r : Reply Walk). r .answer) (bounded-as t _ 1 (keeps-rule w K) (in-shape _ (on-end ks)))
-      ∙ agreed ks .bounded-onward (sym (ap (λ (s : Walk). s .end) q) ∙ e)
+    kept-paths : (ks cs : List ℕ) (c : ℕ) → Path (graph w) 1 ks cs c
+        → (c ≤ B) ↔ Unchanged (boundedMove t) (λ s. boundedBlock t (s .walk)) (λ s. s .walk .end) (with v) ks cs
+    unfolding PathsKept readBounded
+    kept-paths ks cs c r =
+        let a = paths ks cs c r in
+        let u = unchanged-as (bounded-run ks) (λ s. boundedBlock t (s .walk)) (λ s. s .walk .end) cs in
+        (λ l. u .0 (a .0 l), λ h. a .1 (u .1 h))
 
-  most-of : (z : Walk) (e : End) → z .end ≡ e → z .count ≤ mostMoves B (z .end) → z .count ≤ mostMoves B e
-  most-of z e p l = subst (λ (x : End). z .count ≤ mostMoves B x) p l
+    whole : (ms : List Move) → RoomFor w ms → Demand3 byValue w t n z (with z) (with v) ms
+    unfolding readBounded mostMoves
+    whole ms room =
+        let ks = map (λ i. i .choice) ms in
+        let x = guarded-run ms room in
+        let y = bounded-run ks in
+        let d = agreed ks in
+        let f = final (reply (boundedWalk m)) v ks in
+        let count = ap (λ (s : Budgeted). s .walk .count) (y .last) in
+        let end = ap (λ (s : Budgeted). s .walk .end) (y .last) in
+        let moves : f .count ≡ zeros (answers (boundedMove t) (with v) ks) = d .moves ∙ sym (ap zeros (y .answer)) in
+        record {
+          monitor-acts = monitor-acts (graph w) (S .laws) B;
+          guarded-answers = x .answer;
+          bounded-answers = y .answer ∙ d .answer;
+          guarded-block = ap (λ (s : Budgeted). s .walk .place) (x .last);
+          bounded-block = ap (λ (s : Budgeted). boundedBlock t (s .walk)) (y .last) ∙ d .block;
+          guarded-end = ap (λ (s : Budgeted). s .walk .end) (x .last);
+          bounded-end = end ∙ d .end;
+          guarded-count = ap (λ (s : Budgeted). s .walk .count) (x .last);
+          guarded-most = omega (arith, d .count, ap (λ (s : Budgeted). s .walk .count) (x .last));
+          bounded-count = count ∙ moves;
+          bounded-going = λ e. omega (arith, count, most-of f going (sym end ∙ e) (d .most));
+          bounded-ended = omega (arith, count, d .most, most-fits B (f .end));
+          ends-within = λ l e. omega (arith, moves, most-of f going (sym end ∙ e) (d .most));
+          monitor-onward = λ e. (1, d .monitor-onward e);
+          guarded-onward = λ e. (1, guarded-next ks _ (x .last) e);
+          bounded-onward = λ e. (1, bounded-next ks _ (y .last) e);
+          paths-kept = kept-paths;
+        }
 
-  kept : (ks bs : List ℕ) (c : ℕ) → Path (graph w) 1 ks bs c
-      → (c ≤ B) ↔ Unchanged (boundedMove t) (boundedBlock t) (λ s. s .end) starting ks bs
-  unfolding PathsKept readBounded
-  kept ks bs c r =
-      let p = paths ks bs c r in
-      let u = unchanged-as (bounded-run ks) (boundedBlock t) (λ s. s .end) bs in
-      (λ l. u .0 (p .0 l), λ h. p .1 (u .1 h))
+  -- THE STARTS
+  module _ (n : ℕ) (p : 1 ≤ n) (q : n ≤ length bs) where
+    abbrev b : ℕ
+    b = nth bs n
 
-  whole : (ms : List Move) → ((i : Move) → List·Memᴰ i ms → taskArea (task w) ≤ length (i .area)) → Demand3 byValue w t ms
-  unfolding readBounded mostMoves
-  whole ms room =
-      let ks = map (λ i. i .choice) ms in
-      let x = guarded-run ms room in
-      let y = bounded-run ks in
-      let d = agreed ks in
-      let z = final (reply (boundedWalk m)) starting ks in
-      let count = ap (λ (s : Walk). s .count) (y .last) in
-      let end = ap (λ (s : Walk). s .end) (y .last) in
-      let moves : z .count ≡ zeros (answers (boundedMove t) starting ks) = d .moves ∙ sym (ap zeros (y .answer)) in
-      record {
-        monitor-acts = monitor-acts (graph w) (S .laws) B;
-        guarded-answers = x .answer;
-        bounded-answers = y .answer ∙ d .answer;
-        guarded-block = ap (λ (s : Walk). s .place) (x .last);
-        bounded-block = ap (boundedBlock t) (y .last) ∙ d .block;
-        guarded-end = ap (λ (s : Walk). s .end) (x .last);
-        bounded-end = end ∙ d .end;
-        guarded-count = ap (λ (s : Walk). s .count) (x .last);
-        guarded-most = omega (arith, d .count, ap (λ (s : Walk). s .count) (x .last));
-        bounded-count = count ∙ moves;
-        bounded-going = λ e. omega (arith, count, most-of z going (sym end ∙ e) (d .most));
-        bounded-ended = omega (arith, count, d .most, most-fits B (z .end));
-        ends-within = λ l e. omega (arith, moves, most-of z going (sym end ∙ e) (d .most));
-        monitor-onward = λ e. (1, d .monitor-onward e);
-        guarded-onward = λ e. (1, guarded-next ks _ (x .last) e);
-        bounded-onward = λ e. (1, bounded-next ks _ (y .last) e);
-        paths-kept = kept;
-      }
+    named-budget : List·Memᴰ b bs
+    named-budget = nth-in bs n p q
+
+    -- from the place of the budget's start copy, or diverted where nothing fits
+    from-places : (ms : List Move) → RoomFor w ms
+        → Demand3 byValue w t n (graphStart (graph w) b) (budgeted n (graphStart (graph w) b)) (budgeted n (entersAt (entryFor (task w) b))) ms
+    unfolding setsOut entersAt boundedWalk
+    from-places ms room = go (lowOf (graph w) 1 b) refl
+      where
+        still : (s : Walk) → s ≡ stopped → s .end ≡ going → ⊥
+        still s h g = let z : _≡_ {A = ℕ} 0 1 = ap (λ (x : End). elim x [ going ↦ 0 | exit ↦ 2 | diverted ↦ 1 ]) (sym g ∙ ap (λ (s : Walk). s .end) h) in
+            absurd (omega arith)
+
+        go : (o : Option ℕ) → lowOf (graph w) 1 b ≡ o
+            → Demand3 byValue w t n (graphStart (graph w) b) (budgeted n (graphStart (graph w) b)) (budgeted n (entersAt (entryFor (task w) b))) ms
+        go (some a) e =
+            let E : Entry S = record { budget = b; named = named-budget; low = a; fits = e } in
+            let x = number-place (startCopy S E) (copies S) (start-in S E) in
+            let place : entryFor (task w) b ≡ suc (x .0) = entry-some S b a named-budget e .0 ∙ x .1 in
+            let at : startAt (entryPlace S E) ≡ startAt (suc (x .0)) = ap startAt (x .1) in
+            let H = Held S m Y E in
+            rw (e, setsOut, place, entersAt)
+            (whole n p q starting (startAt (suc (x .0))) (monitor-start S b) H (held-shape S m Y E) (held-kept S m Y E)
+            (subst H at (held-start S m Y E))
+            (λ ks. subst (λ (s : Walk). Agrees S m b starting s ks) at (agrees S m Y E ks))
+            (subst (PathsKept S m b) at (paths-kept S m Y E)) ms room)
+        go none e =
+            rw (e, setsOut, entry-none S b e, entersAt)
+            (whole n p q stopped stopped (monitor-stopped S b) (λ s. s ≡ stopped)
+            (λ s h. subst (λ (x : Walk). InShape (m .size) (m .last) (mostMoves b (x .end)) x) (sym h) (bounded-stopped S b m Y))
+            (λ s h g. absurd (still s h g)) refl
+            (stopped-agrees S b m Y) (stopped-paths S b m Y e) ms room)
+
+    -- the start calls answer 0 and leave these
+    guarded-started : (area : List ℕ) → taskArea (task w) ≤ length area → (o : Budgeted)
+        → (startReply w o (record { number = n; area = area }) .answer ≡ 0)
+        × (startReply w o (record { number = n; area = area }) .after ≡ budgeted n (graphStart (graph w) b))
+    unfolding guardedStart guardedStartOrder lentAfter
+    guarded-started area room o =
+        let x : OutsetOn = record { sheet = w; outset = record { number = n; area = area } } in
+        let a : refused guardedStartOrder x ≡ 0
+        = over-i (λ (i : OutsetOn). record { sheet = i .sheet; area = i .outset .area }) weighOrder _ x weigh-numbered
+        (weighs w area (K .start) (K .ok) room (K .opens))
+        (passed 33 _ _ x (not-outside 1 (length bs) n p q) (none-left x)) in
+        (a, ap (λ (c : ℕ). lentAfter c o (budgeted n (graphStart (graph w) b))) a)
+
+    bounded-started : (o : Budgeted)
+        → (boundedStart t o n .answer ≡ 0) × (boundedStart t o n .after ≡ budgeted n (entersAt (entryFor (task w) b)))
+    unfolding boundedStart boundedStartOrder boundedRefusal lentAfter
+    bounded-started o =
+        let x : NumberOn = record { sheet = t; number = n } in
+        let a : refused boundedStartOrder x ≡ 0
+        = over-i (λ (i : NumberOn). i .sheet) boundedOrder _ x bounded-numbered (keeps-rule w K)
+        (passed 33 _ _ x (not-outside 1 (length (budgetsIn t)) n p (omega (arith, ap length (budgets-back w K)))) (none-left x)) in
+        let e : nth (entriesIn t) n ≡ entryFor (task w) b
+        = ap (λ (l : List ℕ). nth l n) (entries-back w K) ∙ nth-map (entryFor (task w)) bs n p q in
+        (a, ap (λ (c : ℕ). lentAfter c o (budgeted n (entersAt (nth (entriesIn t) n)))) a ∙ ap (λ (e : ℕ). budgeted n (entersAt e)) e)
+
+    from-starts : (area : List ℕ) → taskArea (task w) ≤ length area → (o v : Budgeted) (ms : List Move) → RoomFor w ms
+        → StartsAndKeeps byValue w t n area o v ms
+    from-starts area room o v ms rooms =
+        let g = guarded-started area room o in
+        let h = bounded-started v in
+        record {
+          guarded-starts = g .0;
+          bounded-starts = h .0;
+          keeps = rw (g .1, h .1) (from-places ms rooms);
+        }
+
+  -- from the starting walk, on a sheet of the first version: the only budget is the largest, and its entry 1
+  from-starting : isSecond w ≡ false → (ms : List Move) → RoomFor w ms → Demand3 byValue w t 1 starting startingWalk startingWalk ms
+  unfolding setsOut entersAt
+  from-starting first ms room =
+      let f = first-version w K first in
+      let one : 1 ≤ length bs = omega (arith, f .0) in
+      let low : lowOf (graph w) 1 (nth bs 1) ≡ some (K .start) = ap (lowOf (graph w) 1) (one-last bs (f .0)) ∙ K .opens in
+      let e : entryFor (task w) (nth bs 1) ≡ 1
+      = sym (nth-map (entryFor (task w)) bs 1 (omega arith) one) ∙ ap (λ (l : List ℕ). nth l 1) (f .1) in
+      let d = from-places 1 (omega arith) one ms room in
+      rw (low, setsOut, e, entersAt) at d
 
 -- what an accepted build filled is the bounded sheet
 filled-words : (i : Lent) → build i .answer ≡ 0 → builtWords i ≡ boundedSheet (i .sheet)
@@ -169,6 +267,11 @@ pub keeps-demand2 : KeepsDemand2
 keeps-demand2 i accepted = subst (Demand2 (i .sheet)) (sym (filled-words i accepted)) (demand2 (i .sheet) (buildable i accepted))
 
 pub keeps-demand3 : KeepsDemand3 byValue
-keeps-demand3 i accepted ms room =
-    subst (λ (t : List ℕ). Demand3 byValue (i .sheet) t ms) (sym (filled-words i accepted))
-    (whole (i .sheet) (buildable i accepted) ms room)
+keeps-demand3 i accepted n p q area room o v ms rooms =
+    subst (λ (t : List ℕ). StartsAndKeeps byValue (i .sheet) t n area o v ms) (sym (filled-words i accepted))
+    (from-starts (i .sheet) (buildable i accepted) n p q area room o v ms rooms)
+
+pub keeps-from-start : KeepsFromStart byValue
+keeps-from-start i accepted first ms rooms =
+    subst (λ (t : List ℕ). Demand3 byValue (i .sheet) t 1 starting startingWalk startingWalk ms) (sym (filled-words i accepted))
+    (from-starting (i .sheet) (buildable i accepted) first ms rooms)

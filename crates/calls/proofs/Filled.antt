@@ -15,14 +15,16 @@ use Rattle.base.proofs.Orders.{over-is}
 use Rattle.theory.specs.Completions.{Graph, Completion, completes, lowOf}
 use Rattle.theory.specs.Setting.{WellFormed}
 use Rattle.theory.proofs.Completions.{completes-sound, completes-complete, low-none, no-low}
-use Rattle.formats.specs.GraphSheet.{budgetIn, header, sheetRefusal}
+use Rattle.formats.specs.Versions.{largestIn}
+use Rattle.formats.specs.GraphSheet.{header, sheetRefusal}
 use Rattle.formats.proofs.Accepted.{accepted}
 use Rattle.calls.specs.SheetGraph.{task, graph}
 use Rattle.calls.specs.Area.{byteOf, filled}
 use Rattle.calls.specs.Weigh.{Weighing, taskArea, nothingFits, weighOrder, beforeWeighing, areaAfter, weighed}
 use Rattle.calls.specs.Build.{Lent, buildOrder, build}
 use Rattle.calls.specs.Moves.{GuardedInput, moved, guardedOrder, guardedReply, guardedMove}
-use Rattle.calls.specs.Filled.{NineIsExact, Holds, WeighingFills, BuildFills, MoveFills}
+use Rattle.calls.specs.Starts.{OutsetOn, guardedStartOrder, guardedStart}
+use Rattle.calls.specs.Filled.{NineIsExact, Holds, WeighingFills, BuildFills, MoveFills, StartFills}
 use Rattle.calls.proofs.SheetLaws.{well-formed}
 use Rattle.calls.proofs.Weigh.{weighs-late, late-area}
 use Rattle.calls.proofs.Area.{cell-filled, rest-untouched, filled-length}
@@ -37,7 +39,7 @@ pub nine-is-exact : NineIsExact
 unfolding nothingFits isNone
 nine-is-exact w ok =
     let L = well-formed (header w) w (accepted w ok .sound) in
-    let b = budgetIn w in
+    let b = largestIn w in
     (λ e. low-none (graph w) L 1 b (none-of (lowOf (graph w) 1 b) e), λ n. ap isNone (no-low (graph w) L n))
 
 -- a byte is that of a completion, or of none
@@ -62,7 +64,7 @@ module _ (w area : List ℕ) (ok : sheetRefusal w ≡ 0) (room : taskArea (task 
   n = header w .blocks
 
   abbrev b : ℕ
-  b = budgetIn w
+  b = largestIn w
 
   abbrev L : WellFormed (graph w)
   L = well-formed (header w) w (accepted w ok .sound)
@@ -102,3 +104,8 @@ unfolding guardedMove guardedReply guardedOrder moved
 move-fills w s m late =
     holds-after (λ (i : GuardedInput). record { sheet = i .sheet; area = i .area }) _
     (record { sheet = w; area = m .area; walk = s; choice = m .choice }) refl late
+
+pub start-fills : StartFills
+unfolding guardedStart guardedStartOrder
+start-fills w s i late =
+    holds-after (λ (x : OutsetOn). record { sheet = x .sheet; area = x .outset .area }) _ (record { sheet = w; outset = i }) refl late

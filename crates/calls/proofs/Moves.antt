@@ -9,21 +9,22 @@ use native.Mathlib.Omega.{arith}
 use borrow.Author.Tests.{le-ltb}
 use lib.Dec.{eqb}
 use lib.ListN.{length}
-use Rattle.base.specs.Lists.{chosen}
+use Rattle.base.specs.Lists.{chosen, nth}
 use Rattle.base.specs.Checks.{Order, refused, over, lentAfter, outside}
 use Rattle.base.proofs.Lists.{chosen-le, chosen-some}
 use Rattle.base.proofs.Orders.{Numbered, pick, tested, none-left, over-is, over-stops, over-passes, inside-of, not-outside, refused-lent}
 use Rattle.theory.specs.Completions.{lowOf}
 use Rattle.theory.specs.Machines.{End, going, exit, diverted, Reply, Machine, taken, replyAt, reply}
 use Rattle.theory.specs.Walks.{Walk, isExit, hasEnded, InShape, mostMoves, monitor, boundedWalk}
-use Rattle.formats.specs.GraphSheet.{budgetIn, header, sheetRefusal}
-use Rattle.formats.specs.BoundedSheet.{heading}
+use Rattle.formats.specs.Versions.{budgetsIn, largestIn}
+use Rattle.formats.specs.GraphSheet.{header, sheetRefusal}
 use Rattle.formats.specs.Rule11.{boundedOrder, boundedRefusal}
 use Rattle.formats.proofs.RuleKept.{bounded-numbered}
 use Rattle.calls.specs.SheetGraph.{task, graph, readBounded}
 use Rattle.calls.specs.Weigh.{taskArea, weighOrder}
 use Rattle.calls.proofs.Weigh.{weigh-numbered, weighs}
-use Rattle.calls.specs.Moves.{outOfShape, Standing, moveOrder, moved, Move, GuardedInput, onGraph, guardedOrder, guardedReply}
+use Rattle.calls.specs.Moves.{Budgeted, budgeted, replyWith, outOfShape, Standing, badWalk, moveOrder, moved, Move, GuardedInput, onGraph}
+use Rattle.calls.specs.Moves.{guardedOrder, guardedReply}
 use Rattle.calls.specs.Moves.{BoundedInput, onBounded, boundedMoveOrder, boundedMove}
 
 -- 31 is where the list has no such element
@@ -37,49 +38,59 @@ unchosen xs k e = go (outside 1 (length xs) k) refl
         let x = chosen-some xs k (l .0) (l .1) in
         absurd (Option·none-ne-some (x .0) (sym e ∙ x .1))
 
--- A CALL on a walk: some order over a part of the input, then 33, 32 and 31 of where the walk stands on a machine
+-- A CALL on a walk with its budget: some order over a part of the input, then 33, 32 and 31 of where the walk stands on a machine
 module _ (m : Machine Walk ℕ) where
+  -- what the machine replies
+  abbrev pub replies : Budgeted → ℕ → Reply Budgeted
+  replies s k = replyWith (s .number) (reply m (s .walk) k)
+
   -- under a refusal of its own the machine stays, so that nothing is left to keep
-  reply-lent : (s : Walk) (k : ℕ) → lentAfter (reply m s k .answer) s (reply m s k .after) ≡ reply m s k .after
+  reply-lent : (s : Budgeted) (k : ℕ)
+      → lentAfter (reply m (s .walk) k .answer) s (budgeted (s .number) (reply m (s .walk) k .after))
+      ≡ budgeted (s .number) (reply m (s .walk) k .after)
   unfolding lentAfter reply replyAt taken
-  reply-lent s k = by-end (m .stands s)
+  reply-lent s k = by-end (m .stands (s .walk))
     where
-      by-choice : (o : Option ℕ) → lentAfter (taken m s o .answer) s (taken m s o .after) ≡ taken m s o .after
+      by-choice : (o : Option ℕ)
+          → lentAfter (taken m (s .walk) o .answer) s (budgeted (s .number) (taken m (s .walk) o .after))
+          ≡ budgeted (s .number) (taken m (s .walk) o .after)
       by-choice none = refl
       by-choice (some x) = refl
 
-      by-end : (e : End) → lentAfter (replyAt m e s k .answer) s (replyAt m e s k .after) ≡ replyAt m e s k .after
-      by-end going = by-choice (chosen (m .targets s) k)
+      by-end : (e : End)
+          → lentAfter (replyAt m e (s .walk) k .answer) s (budgeted (s .number) (replyAt m e (s .walk) k .after))
+          ≡ budgeted (s .number) (replyAt m e (s .walk) k .after)
+      by-end going = by-choice (chosen (m .targets (s .walk)) k)
       by-end exit = refl
       by-end diverted = refl
 
-  module _ (i : Standing) (stand : m .stands (i .walk) ≡ i .walk .end) (same : m .targets (i .walk) ≡ i .targets) where
+  module _ (i : Standing) (stand : m .stands (i .walk .walk) ≡ i .walk .walk .end) (same : m .targets (i .walk .walk) ≡ i .targets) where
     -- 32 and 31 are the machine's
-    last-two : refused ((32, λ (i : Standing). hasEnded (i .walk .end)) ∷ (31, λ (i : Standing). outside 1 (length (i .targets)) (i .choice)) ∷ []) i
-        ≡ reply m (i .walk) (i .choice) .answer
+    last-two : refused ((32, λ (i : Standing). hasEnded (i .walk .walk .end)) ∷ (31, λ (i : Standing). outside 1 (length (i .targets)) (i .choice)) ∷ []) i
+        ≡ reply m (i .walk .walk) (i .choice) .answer
     unfolding reply replyAt taken hasEnded
     last-two =
         let r = tested 31 (λ (i : Standing). outside 1 (length (i .targets)) (i .choice)) [] i refl (none-left i) in
-        tested 32 (λ (i : Standing). hasEnded (i .walk .end)) _ i refl r ∙ rw (stand) (by-end (i .walk .end))
+        tested 32 (λ (i : Standing). hasEnded (i .walk .walk .end)) _ i refl r ∙ rw (stand) (by-end (i .walk .walk .end))
       where
         by-choice : (o : Option ℕ) → chosen (i .targets) (i .choice) ≡ o
-            → pick (outside 1 (length (i .targets)) (i .choice)) 31 0 ≡ taken m (i .walk) o .answer
+            → pick (outside 1 (length (i .targets)) (i .choice)) 31 0 ≡ taken m (i .walk .walk) o .answer
         by-choice none e = rw (unchosen (i .targets) (i .choice) e)
         by-choice (some x) e =
             let l = chosen-le (i .targets) (i .choice) x e in rw (not-outside 1 (length (i .targets)) (i .choice) (l .0) (l .1))
 
         by-end : (e : End)
-            → pick (hasEnded e) 32 (pick (outside 1 (length (i .targets)) (i .choice)) 31 0) ≡ replyAt m e (i .walk) (i .choice) .answer
+            → pick (hasEnded e) 32 (pick (outside 1 (length (i .targets)) (i .choice)) 31 0) ≡ replyAt m e (i .walk .walk) (i .choice) .answer
         by-end going = rw same (by-choice (chosen (i .targets) (i .choice)) refl)
         by-end exit = refl
         by-end diverted = refl
 
   module _ {I J : Type 0} (f : J → I) (rs : Order I) (n : Numbered rs) (g : J → Standing) (j : J) where
-    abbrev s : Walk
+    abbrev s : Budgeted
     s = g j .walk
 
-    abbrev r : Reply Walk
-    r = reply m (g j .walk) (g j .choice)
+    abbrev r : Reply Budgeted
+    r = replyWith (g j .walk .number) (reply m (g j .walk .walk) (g j .choice))
 
     abbrev order : Order J
     order = over f rs ++ over g moveOrder
@@ -90,7 +101,7 @@ module _ (m : Machine Walk ℕ) where
 
     -- the sheet is refused
     pub sheet-refuses : {a : ℕ} → a ≡ refused rs (f j) → (a ≡ 0 → ⊥)
-        → moved (refused (over f rs ++ over g moveOrder) j) (g j .walk) (reply m (g j .walk) (g j .choice))
+        → moved (refused (over f rs ++ over g moveOrder) j) (g j .walk) (replies (g j .walk) (g j .choice))
         ≡ record { answer = a; after = g j .walk }
     sheet-refuses {a} e z = refuses a z (over-stops f rs (over g moveOrder) j (λ q. z (e ∙ q)) ∙ sym e)
 
@@ -99,17 +110,17 @@ module _ (m : Machine Walk ℕ) where
       behind = over-passes f rs (over g moveOrder) j n e ∙ over-is g moveOrder j
 
       -- the walk is out of shape
-      pub shape-refuses : outOfShape (g j .places) (g j .last) (g j .most) (g j .walk) ≡ true
-          → moved (refused (over f rs ++ over g moveOrder) j) (g j .walk) (reply m (g j .walk) (g j .choice))
+      pub shape-refuses : badWalk (g j) ≡ true
+          → moved (refused (over f rs ++ over g moveOrder) j) (g j .walk) (replies (g j .walk) (g j .choice))
           ≡ record { answer = 33; after = g j .walk }
       unfolding moveOrder
       shape-refuses t = refuses 33 (λ z. omega arith) (behind ∙ tested 33 _ _ (g j) t refl)
 
       -- the machine replies
-      pub machine-replies : m .stands (g j .walk) ≡ g j .walk .end → m .targets (g j .walk) ≡ g j .targets
-          → outOfShape (g j .places) (g j .last) (g j .most) (g j .walk) ≡ false
-          → moved (refused (over f rs ++ over g moveOrder) j) (g j .walk) (reply m (g j .walk) (g j .choice))
-          ≡ reply m (g j .walk) (g j .choice)
+      pub machine-replies : m .stands (g j .walk .walk) ≡ g j .walk .walk .end → m .targets (g j .walk .walk) ≡ g j .targets
+          → badWalk (g j) ≡ false
+          → moved (refused (over f rs ++ over g moveOrder) j) (g j .walk) (replies (g j .walk) (g j .choice))
+          ≡ replies (g j .walk) (g j .choice)
       unfolding moved moveOrder
       machine-replies stand same t =
           let a : refused order j ≡ r .answer = behind ∙ tested 33 _ _ (g j) t (last-two (g j) stand same) in
@@ -129,21 +140,30 @@ in-shape n x m s h =
     rw (not-outside 1 n (s .place) (h .place .0) (h .place .1), beq-refl (isExit (s .end)) (eqb (s .place) x) (h .ended))
     (le-ltb m (s .count) (h .count))
 
--- THE TWO CALLS on walks in shape and accepted sheets reply as the machines do
-pub guarded-as : (w : List ℕ) (i : Move) (s : Walk) (a : ℕ) → sheetRefusal w ≡ 0 → taskArea (task w) ≤ length (i .area)
-    → lowOf (graph w) 1 (budgetIn w) ≡ some a
-    → InShape (header w .blocks) 2 (budgetIn w) s → guardedReply w s i ≡ reply (monitor (graph w) (budgetIn w)) s (i .choice)
-unfolding guardedReply guardedOrder monitor
-guarded-as w i s a e room low h =
-    let x : GuardedInput = record { sheet = w; area = i .area; walk = s; choice = i .choice } in
-    machine-replies (monitor (graph w) (budgetIn w)) _ weighOrder weigh-numbered onGraph x (weighs w (i .area) a e room low) refl refl
-    (in-shape (header w .blocks) 2 (budgetIn w) s h)
+-- with the number of a budget of the sheet
+pub numbered-shape : (i : Standing) → 1 ≤ i .walk .number → i .walk .number ≤ i .budgets
+    → InShape (i .places) (i .last) (i .most) (i .walk .walk) → badWalk i ≡ false
+unfolding badWalk
+numbered-shape i p q h =
+    rw (not-outside 1 (i .budgets) (i .walk .number) p q) (in-shape (i .places) (i .last) (i .most) (i .walk .walk) h)
 
-pub bounded-as : (t : List ℕ) (s : Walk) (k : ℕ) → boundedRefusal t ≡ 0
-    → InShape (readBounded t .size) (readBounded t .last) (mostMoves (heading t .budget) (s .end)) s
-    → boundedMove t s k ≡ reply (boundedWalk (readBounded t)) s k
+-- THE TWO CALLS on walks in shape and accepted sheets reply as the machines do
+pub guarded-as : (w : List ℕ) (i : Move) (s : Budgeted) (a : ℕ) → sheetRefusal w ≡ 0 → taskArea (task w) ≤ length (i .area)
+    → lowOf (graph w) 1 (largestIn w) ≡ some a
+    → 1 ≤ s .number → s .number ≤ length (budgetsIn w)
+    → InShape (header w .blocks) 2 (nth (budgetsIn w) (s .number)) (s .walk)
+    → guardedReply w s i ≡ replyWith (s .number) (reply (monitor (graph w) (nth (budgetsIn w) (s .number))) (s .walk) (i .choice))
+unfolding guardedReply guardedOrder monitor
+guarded-as w i s a e room low p q h =
+    let x : GuardedInput = record { sheet = w; area = i .area; walk = s; choice = i .choice } in
+    machine-replies (monitor (graph w) (nth (budgetsIn w) (s .number))) _ weighOrder weigh-numbered onGraph x (weighs w (i .area) a e room low) refl refl
+    (numbered-shape (onGraph x) p q h)
+
+pub bounded-as : (t : List ℕ) (s : Budgeted) (k : ℕ) → boundedRefusal t ≡ 0
+    → 1 ≤ s .number → s .number ≤ length (budgetsIn t)
+    → InShape (readBounded t .size) (readBounded t .last) (mostMoves (nth (budgetsIn t) (s .number)) (s .walk .end)) (s .walk)
+    → boundedMove t s k ≡ replyWith (s .number) (reply (boundedWalk (readBounded t)) (s .walk) k)
 unfolding boundedMove boundedMoveOrder boundedRefusal boundedWalk
-bounded-as t s k e h =
+bounded-as t s k e p q h =
     let x : BoundedInput = record { sheet = t; walk = s; choice = k } in
-    let m = readBounded t in
-    machine-replies (boundedWalk m) _ boundedOrder bounded-numbered onBounded x e refl refl (in-shape (m .size) (m .last) _ s h)
+    machine-replies (boundedWalk (readBounded t)) _ boundedOrder bounded-numbered onBounded x e refl refl (numbered-shape (onBounded x) p q h)

@@ -1,15 +1,18 @@
--- Sound records hold a well-formed graph, and so a setting for the theory at each budget that something fits.
--- Rests on theory Setting, formats Accepted, SheetGraph.
-use mathlib.Core.Path.{_≡_, refl, ap, subst, _∙_}
+-- Sound records hold a well-formed graph, and so a setting for the theory with budgets of which something fits the largest.
+-- Rests on theory Setting, formats Budgets and Accepted, SheetGraph.
+use mathlib.Core.Path.{_≡_, ap, subst, _∙_}
 use mathlib.Core.Logic.{_≢_}
-use mathlib.Core.List.{List, [], _∷_, List·Memᴰ, List·Memᴰ·head, List·Memᴰ·not-nil, List·Memᴰ·eq-of-singleton}
+use mathlib.Core.List.{List, List·Memᴰ, List·Memᴰ·not-nil}
 use mathlib.Core.Option.{some}
 use Prim.Native.Nat.{ℕ, _≤_}
 use native.Mathlib.Omega.{arith}
+use Rattle.base.specs.Lists.{lastOf}
 use Rattle.theory.specs.Completions.{lowOf}
-use Rattle.theory.specs.Tasks.{taskAt}
+use Rattle.theory.specs.Tasks.{taskWith}
 use Rattle.theory.specs.Setting.{WellFormed, Setting}
+use Rattle.formats.specs.Versions.{Claimed}
 use Rattle.formats.specs.GraphSheet.{Header, successors, Sound}
+use Rattle.formats.proofs.Budgets.{largest-named, largest-most}
 use Rattle.formats.proofs.Accepted.{free, paid, source-inside, target-inside, no-successor}
 use Rattle.calls.specs.SheetGraph.{graphAt}
 
@@ -33,14 +36,14 @@ module _ (h : Header) (w : List ℕ) (A : Sound h w) where
   unfolding graphAt
   inside v t m = target-inside h w A v t m .1
 
-  -- its setting at a budget that leaves block 1 a completion
-  abbrev pub settingAt : (b a : ℕ) → lowOf (graphAt h w) 1 b ≡ some a → Setting
-  settingAt b a e = record {
-    task = taskAt (graphAt h w) (h .blocks) b;
+  -- its setting with budgets whose largest leaves block 1 a completion
+  abbrev pub settingWith : (bs : List ℕ) → Claimed bs → (a : ℕ) → lowOf (graphAt h w) 1 (lastOf bs) ≡ some a → Setting
+  settingWith bs C a e = record {
+    task = taskWith (graphAt h w) (h .blocks) bs;
     laws = well-formed;
     inside = inside;
-    named = List·Memᴰ·head refl;
-    most = λ c m. omega (arith, List·Memᴰ·eq-of-singleton m);
+    named = largest-named C;
+    most = largest-most C;
     start = a;
     opens = e;
   }

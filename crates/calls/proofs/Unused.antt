@@ -17,7 +17,8 @@ use Rattle.base.proofs.Orders.{unrefused, append-e}
 use Rattle.theory.specs.Setting.{Kept}
 use Rattle.theory.proofs.Used.{used}
 use Rattle.formats.specs.Limits.{mostCopies, mostBoundedEdges}
-use Rattle.formats.specs.GraphSheet.{budgetIn, header, sheetOrder, sheetRefusal}
+use Rattle.formats.specs.Versions.{largestIn}
+use Rattle.formats.specs.GraphSheet.{header, sheetOrder, sheetRefusal}
 use Rattle.formats.specs.BoundedSheet.{heading, blockAt, copyAt}
 use Rattle.formats.specs.Report.{copyBlocks, unusedBlocks, refusedAs}
 use Rattle.formats.proofs.Accepted.{accepted, graph-numbered}
@@ -98,7 +99,7 @@ module _ (w : List ℕ) (e : refused listingOrder w ≡ 0) (v : ℕ) where
   n = header w .blocks
 
   abbrev Enters : Type 0
-  Enters = Kept (graph w) (budgetIn w) v
+  Enters = Kept (graph w) (largestIn w) v
 
   member-kept : member v (copyBlocks u) ≡ true → Enters
   unfolding sheetCopies
@@ -110,7 +111,7 @@ module _ (w : List ℕ) (e : refused listingOrder w ≡ 0) (v : ℕ) where
 
   -- "each block that no kept path enters"
   pub unused-exactly : List·Memᴰ v (unusedBlocks (header w .blocks) (boundedSheet w))
-      ↔ ((1 ≤ v) × (v ≤ header w .blocks) × (Kept (graph w) (budgetIn w) v → ⊥))
+      ↔ ((1 ≤ v) × (v ≤ header w .blocks) × (Kept (graph w) (largestIn w) v → ⊥))
   unfolding unusedBlocks
   unused-exactly = (there, back)
     where

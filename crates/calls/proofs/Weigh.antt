@@ -14,7 +14,8 @@ use Rattle.base.specs.Checks.{Order, refused, over, numbersOf, numbersBefore}
 use Rattle.base.proofs.Truth.{not-both}
 use Rattle.base.proofs.Orders.{Numbered, unrefused, passed, none-left, refused-member, append-e, append-passes, over-i, over-e, over-stops}
 use Rattle.theory.specs.Completions.{lowOf}
-use Rattle.formats.specs.GraphSheet.{budgetIn, header, sheetOrder, sheetRefusal}
+use Rattle.formats.specs.Versions.{largestIn}
+use Rattle.formats.specs.GraphSheet.{header, sheetOrder, sheetRefusal}
 use Rattle.formats.proofs.Accepted.{graph-numbered}
 use Rattle.calls.specs.SheetGraph.{task, graph}
 use Rattle.calls.specs.Area.{filled}
@@ -30,14 +31,14 @@ unfolding isNone
 some-low none e = absurd (let z : _≡_ {A = ℕ} 0 1 = cc in omega arith)
 some-low (some a) e = (a, refl)
 
--- THE NUMBERS CHECKED BEFORE 9 are 1 to 8 and 21
-pub spared : (a : ℕ) → beforeWeighing a ≡ member a (from 1 8 ++ (21 ∷ []))
+-- THE NUMBERS CHECKED BEFORE 9 are 1 to 8, with 41 behind 4, and 21
+pub spared : (a : ℕ) → beforeWeighing a ≡ member a (from 1 4 ++ (41 ∷ from 5 4) ++ (21 ∷ []))
 unfolding over numbersOf numbersBefore from sheetOrder frontOrder weighOrder beforeWeighing
 spared a = refl
 
 -- the area under any other answer is filled
 pub late-area : (w area : List ℕ) (a : ℕ) → beforeWeighing a ≡ false
-    → filled (graph w) (header w .blocks) (budgetIn w) area ≡ areaAfter (task w) a area
+    → filled (graph w) (header w .blocks) (largestIn w) area ≡ areaAfter (task w) a area
 unfolding areaAfter
 late-area w area a late = rw (late, areaAfter)
 
@@ -84,7 +85,7 @@ pub record Passed (w area : List ℕ) : Type 0 where
   pub ok : sheetRefusal w ≡ 0
   pub room : taskArea (task w) ≤ length area
   pub start : ℕ
-  pub opens : lowOf (graph w) 1 (budgetIn w) ≡ some start
+  pub opens : lowOf (graph w) 1 (largestIn w) ≡ some start
 
 pub weighs-e : (i : Weighing) → refused weighOrder i ≡ 0 → Passed (i .sheet) (i .area)
 unfolding weighOrder nothingFits
@@ -102,7 +103,7 @@ front-is w area e room =
     over-i (λ i. i .sheet) sheetOrder areaOrder x graph-numbered e
     (passed 21 smallArea [] x (le-ltb (length area) (taskArea (task w)) room) (none-left x))
 
-pub weighs : (w area : List ℕ) (a : ℕ) → sheetRefusal w ≡ 0 → taskArea (task w) ≤ length area → lowOf (graph w) 1 (budgetIn w) ≡ some a
+pub weighs : (w area : List ℕ) (a : ℕ) → sheetRefusal w ≡ 0 → taskArea (task w) ≤ length area → lowOf (graph w) 1 (largestIn w) ≡ some a
     → refused weighOrder (record { sheet = w; area = area }) ≡ 0
 unfolding weighOrder nothingFits isNone
 weighs w area a e room low =

@@ -1,15 +1,17 @@
 -- Cases: one input of one call each, and what the definitions make of it, as a row of numbers. Examples and refusals are rows of them.
--- Rests on theory Machines and Walks, formats Rule11 and Refusals, SheetGraph, Build, Moves, Program, Report, Demand.
+-- Rests on theory Machines and Walks, formats Rule11 and Refusals, SheetGraph, Build, Moves, Starts, Program, Report, Demand.
 use mathlib.Core.List.{List, [], _∷_, _++_}
 use Prim.Native.Nat.{ℕ, zero, suc, _+_, _-_, _*_}
 use lib.ListN.{replicate, set}
+use Rattle.base.specs.Lists.{nth}
 use Rattle.theory.specs.Machines.{End, going, exit, diverted, answers, final}
-use Rattle.theory.specs.Walks.{Walk, starting}
+use Rattle.theory.specs.Walks.{Walk}
 use Rattle.formats.specs.Rule11.{boundedRefusal}
 use Rattle.formats.specs.Refusals.{Case as FormatCase, outcome as formatOutcome}
-use Rattle.calls.specs.SheetGraph.{boundedSheet}
+use Rattle.calls.specs.SheetGraph.{task, boundedSheet}
 use Rattle.calls.specs.Build.{Lent, build}
-use Rattle.calls.specs.Moves.{Move, guardedMove, boundedMove}
+use Rattle.calls.specs.Moves.{Budgeted, Move, guardedMove, boundedMove}
+use Rattle.calls.specs.Starts.{Outset, graphStart, guardedStart, boundedStart}
 use Rattle.calls.specs.Program.{listing}
 use Rattle.calls.specs.Report.{report}
 use Rattle.calls.specs.Demand.{monitorStep}
@@ -22,11 +24,14 @@ pub data Case : Type 0 where
   -- a build: the answer, the work area, the output row
   buildOf : Lent → Case
   -- a guarded move: the answer, the walk, the work area
-  guardedOf : List ℕ → Walk → Move → Case
+  guardedOf : List ℕ → Budgeted → Move → Case
   -- a bounded move: the answer, the walk
-  moveOf : List ℕ → Walk → ℕ → Case
-  -- the monitor over a list of choices: its answers, and its last state
-  monitorOf : List ℕ → List ℕ → Case
+  moveOf : List ℕ → Budgeted → ℕ → Case
+  -- a guarded start: the answer, the walk, the work area; a bounded start: the answer, the walk
+  startOf : List ℕ → Budgeted → Outset → Case
+  enterOf : List ℕ → Budgeted → ℕ → Case
+  -- the monitor with a budget's number over a list of choices: its answers, and its last state
+  monitorOf : List ℕ → ℕ → List ℕ → Case
   -- the listing program's output on a file's bytes
   listingFor : List ℕ → Case
   -- the report program's output on a catalogue's bytes
@@ -42,8 +47,14 @@ endNumber going = 0
 endNumber exit = 1
 endNumber diverted = 2
 
-abbrev walkNumbers : Walk → List ℕ
-walkNumbers s = s .place ∷ s .count ∷ endNumber (s .end) ∷ []
+abbrev stateNumbers : Walk → List ℕ
+stateNumbers s = s .place ∷ s .count ∷ endNumber (s .end) ∷ []
+
+abbrev walkNumbers : Budgeted → List ℕ
+walkNumbers s = stateNumbers (s .walk) ++ (s .number ∷ [])
+
+abbrev budgetOf : List ℕ → ℕ → ℕ
+budgetOf w n = nth (task w .budgets) n
 
 unfoldable pub sheetShown : List ℕ → ℕ → List ℕ
 sheetShown w zero = 0 ∷ boundedRefusal (boundedSheet w) ∷ boundedSheet w
@@ -55,6 +66,10 @@ outcome (sheetOf w) = sheetShown w (build (record { sheet = w; area = replicate 
 outcome (buildOf i) = let r = build i in r .answer ∷ (r .area ++ r .output)
 outcome (guardedOf w s m) = let r = guardedMove w s m in r .answer ∷ (walkNumbers (r .walk) ++ r .area)
 outcome (moveOf t s k) = let r = boundedMove t s k in r .answer ∷ walkNumbers (r .after)
-outcome (monitorOf w ks) = answers (monitorStep w) starting ks ++ walkNumbers (final (monitorStep w) starting ks)
+outcome (startOf w s i) = let r = guardedStart w s i in r .answer ∷ (walkNumbers (r .walk) ++ r .area)
+outcome (enterOf t s k) = let r = boundedStart t s k in r .answer ∷ walkNumbers (r .after)
+outcome (monitorOf w n ks) =
+    let z = graphStart (task w .graph) (budgetOf w n) in
+    answers (monitorStep w (budgetOf w n)) z ks ++ stateNumbers (final (monitorStep w (budgetOf w n)) z ks)
 outcome (listingFor bs) = listing bs
 outcome (reportFor bs) = report bs

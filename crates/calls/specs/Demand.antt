@@ -1,80 +1,98 @@
--- DEMAND 3: the promise about a whole list of choices (document 01, "The watch and the list of choices"), sentence by sentence.
--- Rests on theory Machines, Walks and Setting, formats BoundedSheet, SheetGraph, Weigh, Build, Moves, Construction.
+-- DEMAND 3: the promise about a whole list of choices (document 01, "The watch and the list of choices"; document 02, K2), sentence by sentence.
+-- Rests on theory Machines, Walks and Setting, formats Versions and BoundedSheet, SheetGraph, Weigh, Build, Moves, Starts, Construction.
 use mathlib.Core.Path.{_≡_}
 use mathlib.Core.Logic.{_≢_, _↔_}
+use mathlib.Core.Bool.{false}
 use mathlib.Core.List.{List, map, List·Memᴰ}
 use Prim.Native.Nat.{ℕ, suc, _≤_}
 use lib.ListN.{length}
+use Rattle.base.specs.Lists.{nth}
 use Rattle.theory.specs.Machines.{End, Reply, going, reply, answers, final, zeros, Unchanged}
 use Rattle.theory.specs.Walks.{Walk, starting, monitor, Path}
 use Rattle.theory.specs.Setting.{MonitorActs}
+use Rattle.formats.specs.Versions.{isSecond}
 use Rattle.formats.specs.BoundedSheet.{heading, blockAt}
 use Rattle.calls.specs.SheetGraph.{task}
 use Rattle.calls.specs.Weigh.{taskArea}
 use Rattle.calls.specs.Build.{Lent, build}
-use Rattle.calls.specs.Moves.{Move, guardedReply, boundedMove}
+use Rattle.calls.specs.Moves.{Budgeted, startingWalk, Move, guardedReply, boundedMove}
+use Rattle.calls.specs.Starts.{Outset, graphStart, guardedStart, boundedStart}
 use Rattle.calls.specs.Construction.{builtWords}
 
--- THE CALLS, for a walk that is held as an S: the starting walk, a guarded move on a graph sheet, a bounded move on a bounded sheet, and the
--- walk that an S stands for
+-- THE CALLS, for a walk that is held as an S: the starting walk; the starts with a budget number, on a graph sheet and on a bounded sheet; a
+-- guarded move and a bounded move; and the walk that an S stands for
 pub record Calls (S : Type 0) : Type 0 where
   pub start : S
+  pub guarded-start : List ℕ → S → Outset → Reply S
+  pub bounded-start : List ℕ → S → ℕ → Reply S
   pub guarded : List ℕ → S → Move → Reply S
   pub bounded : List ℕ → S → ℕ → Reply S
-  pub walk : S → Walk
+  pub walk : S → Budgeted
 
 -- the walk by value
-abbrev pub byValue : Calls Walk
-byValue = record { start = starting; guarded = guardedReply; bounded = boundedMove; walk = λ s. s }
+abbrev pub startReply : List ℕ → Budgeted → Outset → Reply Budgeted
+startReply w s i = let r = guardedStart w s i in record { answer = r .answer; after = r .walk }
 
--- the monitor's step on a graph sheet (document 01: the watch)
-abbrev pub monitorStep : List ℕ → Walk → ℕ → Reply Walk
-monitorStep w = reply (monitor (task w .graph) (task w .largest))
+abbrev pub byValue : Calls Budgeted
+byValue = record {
+  start = startingWalk;
+  guarded-start = startReply;
+  bounded-start = boundedStart;
+  guarded = guardedReply;
+  bounded = boundedMove;
+  walk = λ s. s;
+}
+
+-- the monitor's step on a graph sheet at a budget (document 01: the watch)
+abbrev pub monitorStep : List ℕ → ℕ → Walk → ℕ → Reply Walk
+monitorStep w b = reply (monitor (task w .graph) b)
 
 -- the block that a bounded walk shows: "the block in the copy record at its place"
 abbrev pub boundedBlock : List ℕ → Walk → ℕ
 boundedBlock t s = blockAt (heading t) t (s .place)
 
--- w is the graph sheet, t the bounded sheet, and ms the list: a choice, and a work area for each guarded move
-module _ {S : Type 0} (x : Calls S) (w t : List ℕ) (ms : List Move) where
+-- w is the graph sheet, t the bounded sheet, n the number of a budget; the monitor sets out from z, the two walks from u and v; ms is the list:
+-- a choice, and a work area for each guarded move
+module _ {S : Type 0} (x : Calls S) (w t : List ℕ) (n : ℕ) (z : Walk) (u v : S) (ms : List Move) where
   abbrev choices : List ℕ
   choices = map (λ i. i .choice) ms
 
+  -- the budget
   abbrev B : ℕ
-  B = task w .largest
+  B = nth (task w .budgets) n
 
   -- the three rows of answers
   abbrev monitorAnswers : List ℕ
-  monitorAnswers = answers (monitorStep w) starting choices
+  monitorAnswers = answers (monitorStep w B) z choices
 
   abbrev guardedAnswers : List ℕ
-  guardedAnswers = answers (x .guarded w) (x .start) ms
+  guardedAnswers = answers (x .guarded w) u ms
 
   abbrev boundedAnswers : List ℕ
-  boundedAnswers = answers (x .bounded t) (x .start) choices
+  boundedAnswers = answers (x .bounded t) v choices
 
   -- what the last move left, and the walks that it stands for
   abbrev guardedLast : S
-  guardedLast = final (x .guarded w) (x .start) ms
+  guardedLast = final (x .guarded w) u ms
 
   abbrev boundedLast : S
-  boundedLast = final (x .bounded t) (x .start) choices
+  boundedLast = final (x .bounded t) v choices
 
   abbrev monitorEnd : Walk
-  monitorEnd = final (monitorStep w) starting choices
+  monitorEnd = final (monitorStep w B) z choices
 
   abbrev guardedEnd : Walk
-  guardedEnd = x .walk (final (x .guarded w) (x .start) ms)
+  guardedEnd = x .walk (final (x .guarded w) u ms) .walk
 
   abbrev boundedEnd : Walk
-  boundedEnd = x .walk (final (x .bounded t) (x .start) (map (λ i. i .choice) ms))
+  boundedEnd = x .walk (final (x .bounded t) v (map (λ i. i .choice) ms)) .walk
 
   -- a bounded walk's block and end, at each move
   abbrev blockShown : S → ℕ
-  blockShown s = boundedBlock t (x .walk s)
+  blockShown s = boundedBlock t (x .walk s .walk)
 
   abbrev endShown : S → End
-  endShown s = x .walk s .end
+  endShown s = x .walk s .walk .end
 
   pub record Demand3 : Type 0 where
     -- "The watch of demand 3 is a plain machine", and its three rules
@@ -98,19 +116,39 @@ module _ {S : Type 0} (x : Calls S) (w t : List ℕ) (ms : List Move) where
     -- "A bounded walk from the start of a built sheet ends within B + 1 moves."
     pub ends-within : suc B ≤ zeros boundedAnswers → boundedEnd .end ≢ going
     -- "If the walks are still going, some choice would be answered 0."
-    pub monitor-onward : monitorEnd .end ≡ going → (k : ℕ) × (monitorStep w monitorEnd k .answer ≡ 0)
+    pub monitor-onward : monitorEnd .end ≡ going → (k : ℕ) × (monitorStep w B monitorEnd k .answer ≡ 0)
     pub guarded-onward : guardedEnd .end ≡ going
         → (k : ℕ) × ((area : List ℕ) → taskArea (task w) ≤ length area → x .guarded w guardedLast (record { choice = k; area = area }) .answer ≡ 0)
     pub bounded-onward : boundedEnd .end ≡ going → (k : ℕ) × (x .bounded t boundedLast k .answer ≡ 0)
     -- "A path .. runs unchanged when bounded moves answer 0 to each of its choices, show its blocks in order and end with exit. That is so
     -- exactly when its cost is at most B."
     pub paths-kept : (ks bs : List ℕ) (c : ℕ) → Path (task w .graph) 1 ks bs c
-        → (c ≤ B) ↔ Unchanged (x .bounded t) blockShown endShown (x .start) ks bs
+        → (c ≤ B) ↔ Unchanged (x .bounded t) blockShown endShown v ks bs
 
--- THE DEMAND: of every build that answers 0, whatever it was lent, on the words that it filled, and of every list of choices, with any work
 -- areas that 21 lets pass
+abbrev pub RoomFor : List ℕ → List Move → Type 0
+RoomFor w ms = (m : Move) → List·Memᴰ m ms → taskArea (task w) ≤ length (m .area)
+
+-- THE DEMAND: of every build that answers 0, whatever it was lent, on the words that it filled, of every budget number of the sheet, and of
+-- every list of choices, with any work areas that 21 lets pass. "Demand 3 starts the watch and both walks so, with one budget number of the
+-- sheet": the starts answer 0, whatever the walks held before, o and p, and the three set out from what they leave
+pub record StartsAndKeeps {S : Type 0} (x : Calls S) (w t : List ℕ) (n : ℕ) (area : List ℕ) (o p : S) (ms : List Move) : Type 0 where
+  pub guarded-starts : x .guarded-start w o (record { number = n; area = area }) .answer ≡ 0
+  pub bounded-starts : x .bounded-start t p n .answer ≡ 0
+  pub keeps : Demand3 x w t n (graphStart (task w .graph) (nth (task w .budgets) n))
+      (x .guarded-start w o (record { number = n; area = area }) .after) (x .bounded-start t p n .after) ms
+
 abbrev pub KeepsDemand3 : {S : Type 0} → Calls S → Type 0
-KeepsDemand3 x =
+KeepsDemand3 {S} x =
     (i : Lent) → build i .answer ≡ 0
-    → (ms : List Move) → ((m : Move) → List·Memᴰ m ms → taskArea (task (i .sheet)) ≤ length (m .area))
-    → Demand3 x (i .sheet) (builtWords i) ms
+    → (n : ℕ) → 1 ≤ n → n ≤ length (task (i .sheet) .budgets)
+    → (area : List ℕ) → taskArea (task (i .sheet)) ≤ length area
+    → (o p : S) (ms : List Move) → RoomFor (i .sheet) ms
+    → StartsAndKeeps x (i .sheet) (builtWords i) n area o p ms
+
+-- and document 01's own claim, of a sheet of the first version: "Both walks begin as the starting walk"
+abbrev pub KeepsFromStart : {S : Type 0} → Calls S → Type 0
+KeepsFromStart x =
+    (i : Lent) → build i .answer ≡ 0 → isSecond (i .sheet) ≡ false
+    → (ms : List Move) → RoomFor (i .sheet) ms
+    → Demand3 x (i .sheet) (builtWords i) 1 starting (x .start) (x .start) ms

@@ -1,5 +1,5 @@
 -- WHAT 9 AND THE WORK AREA SAY of a sheet's completions (document 01, behind the tables of refusals), over the inductive completions.
--- Rests on theory Completions, SheetGraph, Area, Weigh, Build, Moves.
+-- Rests on theory Completions, SheetGraph, Area, Weigh, Build, Moves, Starts.
 use mathlib.Core.Path.{_≡_}
 use mathlib.Core.Logic.{_↔_}
 use mathlib.Core.Bool.{true, false}
@@ -7,13 +7,13 @@ use mathlib.Core.List.{List}
 use Prim.Native.Nat.{ℕ, _≤_}
 use lib.ListN.{length, getD}
 use Rattle.theory.specs.Completions.{Completion, NoLow}
-use Rattle.theory.specs.Walks.{Walk}
 use Rattle.formats.specs.GraphSheet.{sheetRefusal}
 use Rattle.calls.specs.SheetGraph.{task}
 use Rattle.base.specs.Cells.{cellOf}
 use Rattle.calls.specs.Weigh.{Weighing, taskArea, nothingFits, beforeWeighing, weighed}
 use Rattle.calls.specs.Build.{Lent, build}
-use Rattle.calls.specs.Moves.{Move, guardedMove}
+use Rattle.calls.specs.Moves.{Budgeted, Move, guardedMove}
+use Rattle.calls.specs.Starts.{Outset, guardedStart}
 
 -- "block 1 has no completion cost at or below B", of a sheet that passes 1 to 8
 abbrev pub NineIsExact : Type 0
@@ -39,4 +39,9 @@ BuildFills = (i : Lent) → beforeWeighing (build i .answer) ≡ false → Holds
 
 abbrev pub MoveFills : Type 0
 MoveFills =
-    (w : List ℕ) (s : Walk) (m : Move) → beforeWeighing (guardedMove w s m .answer) ≡ false → Holds w (m .area) (guardedMove w s m .area)
+    (w : List ℕ) (s : Budgeted) (m : Move) → beforeWeighing (guardedMove w s m .answer) ≡ false → Holds w (m .area) (guardedMove w s m .area)
+
+-- "passes a move's checks of sheet and work area"
+abbrev pub StartFills : Type 0
+StartFills =
+    (w : List ℕ) (s : Budgeted) (i : Outset) → beforeWeighing (guardedStart w s i .answer) ≡ false → Holds w (i .area) (guardedStart w s i .area)

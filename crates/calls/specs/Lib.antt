@@ -9,6 +9,8 @@ pub mod Weigh
 pub mod Build
 -- 33, 32, 31, and what the moves leave
 pub mod Moves
+-- a walk that sets out with a chosen budget
+pub mod Starts
 -- what 9 and the work area say of a sheet's completions
 pub mod Filled
 -- the listing program's output

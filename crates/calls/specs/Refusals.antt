@@ -1,15 +1,19 @@
 -- The calls' refusals, pinned by rows of one list: each number, each limit at and one past it, neighbours in each order with both faults.
--- Rests on theory Walks, formats Samples, Cases.
+-- Rests on theory Machines, formats Samples, Moves, Cases.
 use mathlib.Core.List.{List, [], _∷_, _++_}
 use Prim.Native.Nat.{ℕ}
 use lib.ListN.{replicate}
 use Rattle.theory.specs.Machines.{End, going, exit, diverted}
-use Rattle.theory.specs.Walks.{Walk}
-use Rattle.formats.specs.Samples.{loop, least, six, inBytes, lines}
-use Rattle.calls.specs.Cases.{Case, areaWith, buildOf, guardedOf, moveOf, monitorOf, listingFor, reportFor}
+use Rattle.formats.specs.Samples.{loop, loopWith, least, six, threeSeven, inBytes, lines}
+use Rattle.calls.specs.Moves.{Budgeted, budgeted}
+use Rattle.calls.specs.Cases.{Case, areaWith, sheetOf, buildOf, guardedOf, moveOf, startOf, enterOf, monitorOf, listingFor, reportFor}
 
-abbrev walk : ℕ → ℕ → End → Walk
-walk p c e = record { place = p; count = c; end = e }
+-- a walk with the budget number n, and with the first one's
+abbrev walkWith : ℕ → ℕ → ℕ → End → Budgeted
+walkWith n p c e = budgeted n (record { place = p; count = c; end = e })
+
+abbrev walk : ℕ → ℕ → End → Budgeted
+walk p c e = walkWith 1 p c e
 
 -- blocks 3 and 4, of cost 1 and 2, each from the start and to the exit; B = 1
 unfoldable pub sparing : List ℕ
@@ -70,110 +74,201 @@ refusals =
     -- a guarded move: 8 before 21, 21 before 9, 9 before 33, 33 before 32, 32 before 31; the walk stays, the area only before 9
     ∷ (
       guardedOf exitChained (walk 0 0 going) (record { choice = 1; area = 7 ∷ [] }),
-      8 ∷ 0 ∷ 0 ∷ 0 ∷ 7 ∷ [],
+      8 ∷ 0 ∷ 0 ∷ 0 ∷ 1 ∷ 7 ∷ [],
     )
     ∷ (
       guardedOf dear (walk 0 0 going) (record { choice = 1; area = replicate 5 7 }),
-      21 ∷ 0 ∷ 0 ∷ 0 ∷ 7 ∷ 7 ∷ 7 ∷ 7 ∷ 7 ∷ [],
+      21 ∷ 0 ∷ 0 ∷ 0 ∷ 1 ∷ 7 ∷ 7 ∷ 7 ∷ 7 ∷ 7 ∷ [],
     )
     ∷ (
       guardedOf dear (walk 0 0 going) (record { choice = 1; area = replicate 6 7 }),
-      9 ∷ 0 ∷ 0 ∷ 0 ∷ dearArea,
+      9 ∷ 0 ∷ 0 ∷ 0 ∷ 1 ∷ dearArea,
     )
     ∷ (
       guardedOf (loop 6) (walk 0 0 diverted) (record { choice = 0; area = replicate 21 7 }),
-      33 ∷ 0 ∷ 0 ∷ 2 ∷ loopArea,
+      33 ∷ 0 ∷ 0 ∷ 2 ∷ 1 ∷ loopArea,
     )
     ∷ (
       guardedOf (loop 6) (walk 1 0 diverted) (record { choice = 0; area = replicate 21 7 }),
-      32 ∷ 1 ∷ 0 ∷ 2 ∷ loopArea,
+      32 ∷ 1 ∷ 0 ∷ 2 ∷ 1 ∷ loopArea,
     )
     ∷ (
       guardedOf (loop 6) (walk 2 6 exit) (record { choice = 1; area = replicate 21 7 }),
-      32 ∷ 2 ∷ 6 ∷ 1 ∷ loopArea,
+      32 ∷ 2 ∷ 6 ∷ 1 ∷ 1 ∷ loopArea,
     )
     ∷ (
       guardedOf (loop 6) (walk 1 0 going) (record { choice = 0; area = replicate 21 7 }),
-      31 ∷ 1 ∷ 0 ∷ 0 ∷ loopArea,
+      31 ∷ 1 ∷ 0 ∷ 0 ∷ 1 ∷ loopArea,
     )
     ∷ (
       guardedOf (loop 6) (walk 1 0 going) (record { choice = 2; area = replicate 21 7 }),
-      31 ∷ 1 ∷ 0 ∷ 0 ∷ loopArea,
+      31 ∷ 1 ∷ 0 ∷ 0 ∷ 1 ∷ loopArea,
     )
     -- 33: the place outside the sheet, end exit and place 2 not together either way, the count above B of a going and of an ended walk
     ∷ (
       guardedOf (loop 6) (walk 4 0 going) (record { choice = 1; area = replicate 21 7 }),
-      33 ∷ 4 ∷ 0 ∷ 0 ∷ loopArea,
+      33 ∷ 4 ∷ 0 ∷ 0 ∷ 1 ∷ loopArea,
     )
     ∷ (
       guardedOf (loop 6) (walk 3 0 exit) (record { choice = 1; area = replicate 21 7 }),
-      33 ∷ 3 ∷ 0 ∷ 1 ∷ loopArea,
+      33 ∷ 3 ∷ 0 ∷ 1 ∷ 1 ∷ loopArea,
     )
     ∷ (
       guardedOf (loop 6) (walk 2 0 going) (record { choice = 1; area = replicate 21 7 }),
-      33 ∷ 2 ∷ 0 ∷ 0 ∷ loopArea,
+      33 ∷ 2 ∷ 0 ∷ 0 ∷ 1 ∷ loopArea,
     )
     ∷ (
       guardedOf (loop 6) (walk 2 0 diverted) (record { choice = 1; area = replicate 21 7 }),
-      33 ∷ 2 ∷ 0 ∷ 2 ∷ loopArea,
+      33 ∷ 2 ∷ 0 ∷ 2 ∷ 1 ∷ loopArea,
     )
     ∷ (
       guardedOf (loop 6) (walk 3 7 going) (record { choice = 1; area = replicate 21 7 }),
-      33 ∷ 3 ∷ 7 ∷ 0 ∷ loopArea,
+      33 ∷ 3 ∷ 7 ∷ 0 ∷ 1 ∷ loopArea,
     )
     ∷ (
       guardedOf (loop 6) (walk 3 7 diverted) (record { choice = 1; area = replicate 21 7 }),
-      33 ∷ 3 ∷ 7 ∷ 2 ∷ loopArea,
+      33 ∷ 3 ∷ 7 ∷ 2 ∷ 1 ∷ loopArea,
     )
     ∷ (
       guardedOf (loop 6) (walk 3 6 diverted) (record { choice = 1; area = replicate 21 7 }),
-      32 ∷ 3 ∷ 6 ∷ 2 ∷ loopArea,
+      32 ∷ 3 ∷ 6 ∷ 2 ∷ 1 ∷ loopArea,
     )
     -- 0: a block is entered, the exit is entered, the walk is diverted and keeps place and count; a path of cost exactly B is kept
     ∷ (
       guardedOf (loop 6) (walk 1 0 going) (record { choice = 1; area = replicate 21 7 }),
-      0 ∷ 3 ∷ 3 ∷ 0 ∷ loopArea,
+      0 ∷ 3 ∷ 3 ∷ 0 ∷ 1 ∷ loopArea,
     )
     ∷ (
       guardedOf (loop 6) (walk 3 3 going) (record { choice = 1; area = replicate 21 7 }),
-      0 ∷ 3 ∷ 6 ∷ 0 ∷ loopArea,
+      0 ∷ 3 ∷ 6 ∷ 0 ∷ 1 ∷ loopArea,
     )
     ∷ (
       guardedOf (loop 6) (walk 3 6 going) (record { choice = 2; area = replicate 21 7 }),
-      0 ∷ 2 ∷ 6 ∷ 1 ∷ loopArea,
+      0 ∷ 2 ∷ 6 ∷ 1 ∷ 1 ∷ loopArea,
     )
     ∷ (
       guardedOf (loop 6) (walk 3 6 going) (record { choice = 1; area = replicate 21 7 }),
-      0 ∷ 3 ∷ 6 ∷ 2 ∷ loopArea,
+      0 ∷ 3 ∷ 6 ∷ 2 ∷ 1 ∷ loopArea,
     )
     -- a bounded move: 11 before 33, 33 before 32, 32 before 31; the walk stays
-    ∷ (moveOf (2 ∷ []) (walk 0 0 going) 1, 11 ∷ 0 ∷ 0 ∷ 0 ∷ [])
-    ∷ (moveOf six (walk 0 0 diverted) 0, 33 ∷ 0 ∷ 0 ∷ 2 ∷ [])
-    ∷ (moveOf six (walk 1 1 diverted) 0, 32 ∷ 1 ∷ 1 ∷ 2 ∷ [])
-    ∷ (moveOf six (walk 2 3 exit) 1, 32 ∷ 2 ∷ 3 ∷ 1 ∷ [])
-    ∷ (moveOf six (walk 1 0 going) 0, 31 ∷ 1 ∷ 0 ∷ 0 ∷ [])
-    ∷ (moveOf six (walk 4 1 going) 3, 31 ∷ 4 ∷ 1 ∷ 0 ∷ [])
+    ∷ (moveOf (2 ∷ []) (walk 0 0 going) 1, 11 ∷ 0 ∷ 0 ∷ 0 ∷ 1 ∷ [])
+    ∷ (moveOf six (walk 0 0 diverted) 0, 33 ∷ 0 ∷ 0 ∷ 2 ∷ 1 ∷ [])
+    ∷ (moveOf six (walk 1 1 diverted) 0, 32 ∷ 1 ∷ 1 ∷ 2 ∷ 1 ∷ [])
+    ∷ (moveOf six (walk 2 3 exit) 1, 32 ∷ 2 ∷ 3 ∷ 1 ∷ 1 ∷ [])
+    ∷ (moveOf six (walk 1 0 going) 0, 31 ∷ 1 ∷ 0 ∷ 0 ∷ 1 ∷ [])
+    ∷ (moveOf six (walk 4 1 going) 3, 31 ∷ 4 ∷ 1 ∷ 0 ∷ 1 ∷ [])
     -- 33: the place, the end, the count: B while going, B + 1 once ended
-    ∷ (moveOf six (walk 5 0 going) 1, 33 ∷ 5 ∷ 0 ∷ 0 ∷ [])
-    ∷ (moveOf six (walk 3 0 exit) 1, 33 ∷ 3 ∷ 0 ∷ 1 ∷ [])
-    ∷ (moveOf six (walk 2 0 going) 1, 33 ∷ 2 ∷ 0 ∷ 0 ∷ [])
-    ∷ (moveOf six (walk 2 0 diverted) 1, 33 ∷ 2 ∷ 0 ∷ 2 ∷ [])
-    ∷ (moveOf six (walk 1 7 going) 1, 33 ∷ 1 ∷ 7 ∷ 0 ∷ [])
-    ∷ (moveOf six (walk 1 8 diverted) 1, 33 ∷ 1 ∷ 8 ∷ 2 ∷ [])
-    ∷ (moveOf six (walk 1 7 diverted) 1, 32 ∷ 1 ∷ 7 ∷ 2 ∷ [])
+    ∷ (moveOf six (walk 5 0 going) 1, 33 ∷ 5 ∷ 0 ∷ 0 ∷ 1 ∷ [])
+    ∷ (moveOf six (walk 3 0 exit) 1, 33 ∷ 3 ∷ 0 ∷ 1 ∷ 1 ∷ [])
+    ∷ (moveOf six (walk 2 0 going) 1, 33 ∷ 2 ∷ 0 ∷ 0 ∷ 1 ∷ [])
+    ∷ (moveOf six (walk 2 0 diverted) 1, 33 ∷ 2 ∷ 0 ∷ 2 ∷ 1 ∷ [])
+    ∷ (moveOf six (walk 1 7 going) 1, 33 ∷ 1 ∷ 7 ∷ 0 ∷ 1 ∷ [])
+    ∷ (moveOf six (walk 1 8 diverted) 1, 33 ∷ 1 ∷ 8 ∷ 2 ∷ 1 ∷ [])
+    ∷ (moveOf six (walk 1 7 diverted) 1, 32 ∷ 1 ∷ 7 ∷ 2 ∷ 1 ∷ [])
     -- 0: a copy is entered, the exit, the exception exit; the count goes on from B
-    ∷ (moveOf six (walk 1 0 going) 1, 0 ∷ 4 ∷ 1 ∷ 0 ∷ [])
-    ∷ (moveOf six (walk 4 1 going) 2, 0 ∷ 2 ∷ 2 ∷ 1 ∷ [])
-    ∷ (moveOf six (walk 3 2 going) 1, 0 ∷ 3 ∷ 3 ∷ 2 ∷ [])
-    ∷ (moveOf six (walk 1 6 going) 1, 0 ∷ 4 ∷ 7 ∷ 0 ∷ [])
+    ∷ (moveOf six (walk 1 0 going) 1, 0 ∷ 4 ∷ 1 ∷ 0 ∷ 1 ∷ [])
+    ∷ (moveOf six (walk 4 1 going) 2, 0 ∷ 2 ∷ 2 ∷ 1 ∷ 1 ∷ [])
+    ∷ (moveOf six (walk 3 2 going) 1, 0 ∷ 3 ∷ 3 ∷ 2 ∷ 1 ∷ [])
+    ∷ (moveOf six (walk 1 6 going) 1, 0 ∷ 4 ∷ 7 ∷ 0 ∷ 1 ∷ [])
     -- the monitor over lists of choices: empty, 0, too large, after the end, a path of cost exactly B, one choice more
-    ∷ (monitorOf (loop 6) [], 1 ∷ 0 ∷ 0 ∷ [])
-    ∷ (monitorOf (loop 6) (0 ∷ []), 31 ∷ 1 ∷ 0 ∷ 0 ∷ [])
-    ∷ (monitorOf (loop 6) (2 ∷ []), 31 ∷ 1 ∷ 0 ∷ 0 ∷ [])
-    ∷ (monitorOf (loop 6) (1 ∷ 3 ∷ []), 0 ∷ 31 ∷ 3 ∷ 3 ∷ 0 ∷ [])
-    ∷ (monitorOf (loop 6) (1 ∷ 2 ∷ 1 ∷ 0 ∷ []), 0 ∷ 0 ∷ 32 ∷ 32 ∷ 2 ∷ 3 ∷ 1 ∷ [])
-    ∷ (monitorOf (loop 6) (1 ∷ 1 ∷ 2 ∷ []), 0 ∷ 0 ∷ 0 ∷ 2 ∷ 6 ∷ 1 ∷ [])
-    ∷ (monitorOf (loop 6) (1 ∷ 1 ∷ 1 ∷ 2 ∷ []), 0 ∷ 0 ∷ 0 ∷ 32 ∷ 3 ∷ 6 ∷ 2 ∷ [])
+    ∷ (monitorOf (loop 6) 1 [], 1 ∷ 0 ∷ 0 ∷ [])
+    ∷ (monitorOf (loop 6) 1 (0 ∷ []), 31 ∷ 1 ∷ 0 ∷ 0 ∷ [])
+    ∷ (monitorOf (loop 6) 1 (2 ∷ []), 31 ∷ 1 ∷ 0 ∷ 0 ∷ [])
+    ∷ (monitorOf (loop 6) 1 (1 ∷ 3 ∷ []), 0 ∷ 31 ∷ 3 ∷ 3 ∷ 0 ∷ [])
+    ∷ (monitorOf (loop 6) 1 (1 ∷ 2 ∷ 1 ∷ 0 ∷ []), 0 ∷ 0 ∷ 32 ∷ 32 ∷ 2 ∷ 3 ∷ 1 ∷ [])
+    ∷ (monitorOf (loop 6) 1 (1 ∷ 1 ∷ 2 ∷ []), 0 ∷ 0 ∷ 0 ∷ 2 ∷ 6 ∷ 1 ∷ [])
+    ∷ (monitorOf (loop 6) 1 (1 ∷ 1 ∷ 1 ∷ 2 ∷ []), 0 ∷ 0 ∷ 0 ∷ 32 ∷ 3 ∷ 6 ∷ 2 ∷ [])
+    -- SEVERAL BUDGETS. A build: two start copies, of which each entry names its own; equal ones shared; nothing fits the first; nothing fits any
+    ∷ (sheetOf (loopWith (3 ∷ 7 ∷ [])), 0 ∷ 0 ∷ threeSeven)
+    ∷ (
+      sheetOf (loopWith (6 ∷ 7 ∷ [])),
+      0 ∷ 0 ∷ 0 ∷ 4 ∷ 5 ∷ 2 ∷ 6 ∷ 7 ∷ 1 ∷ 1
+          ∷ 1 ∷ 6 ∷ 1 ∷ 2 ∷ 0 ∷ 0 ∷ 3 ∷ 3 ∷ 2 ∷ 3 ∷ 6 ∷ 4
+          ∷ 4 ∷ 0 ∷ 0 ∷ 3 ∷ 2 ∷ 0 ∷ 3 ∷ 5 ∷ 2 ∷ 0 ∷ [],
+    )
+    ∷ (
+      sheetOf (loopWith (2 ∷ 3 ∷ [])),
+      0 ∷ 0 ∷ 0 ∷ 3 ∷ 3 ∷ 2 ∷ 2 ∷ 3 ∷ 0 ∷ 1
+          ∷ 1 ∷ 3 ∷ 1 ∷ 2 ∷ 0 ∷ 0 ∷ 3 ∷ 3 ∷ 2
+          ∷ 3 ∷ 0 ∷ 0 ∷ 3 ∷ 2 ∷ 0 ∷ [],
+    )
+    ∷ (sheetOf (loopWith (1 ∷ 2 ∷ [])), 9 ∷ [])
+    -- 21 goes by the largest budget; 22 counts the new header
+    ∷ (
+      buildOf (record { sheet = loopWith (2 ∷ 3 ∷ []); area = replicate 11 7; output = [] }),
+      21 ∷ replicate 11 7,
+    )
+    ∷ (
+      buildOf (record { sheet = loopWith (2 ∷ 3 ∷ []); area = replicate 12 7; output = replicate 22 9 }),
+      22 ∷ (areaWith 3 3 ((1, 3) ∷ (2, 0) ∷ (3, 3) ∷ []) ++ replicate 22 9),
+    )
+    -- a budget number outside the sheet is 33, in a move and in a start, before 32; 9 before it; the number of a first-version sheet is 1
+    ∷ (
+      guardedOf (loop 6) (walkWith 2 1 0 diverted) (record { choice = 1; area = replicate 21 7 }),
+      33 ∷ 1 ∷ 0 ∷ 2 ∷ 2 ∷ loopArea,
+    )
+    ∷ (
+      guardedOf (loopWith (3 ∷ 6 ∷ [])) (walkWith 0 1 0 going) (record { choice = 1; area = replicate 21 7 }),
+      33 ∷ 1 ∷ 0 ∷ 0 ∷ 0 ∷ loopArea,
+    )
+    ∷ (
+      guardedOf (loopWith (3 ∷ 6 ∷ [])) (walkWith 3 1 0 going) (record { choice = 1; area = replicate 21 7 }),
+      33 ∷ 1 ∷ 0 ∷ 0 ∷ 3 ∷ loopArea,
+    )
+    ∷ (moveOf threeSeven (walkWith 3 1 0 going) 1, 33 ∷ 1 ∷ 0 ∷ 0 ∷ 3 ∷ [])
+    ∷ (moveOf six (walkWith 2 1 0 going) 1, 33 ∷ 1 ∷ 0 ∷ 0 ∷ 2 ∷ [])
+    -- a move reads its budget as B: the loop's turn is diverted with 3 and taken with 6, the count is at most B
+    ∷ (
+      guardedOf (loopWith (3 ∷ 6 ∷ [])) (walkWith 1 3 3 going) (record { choice = 1; area = replicate 21 7 }),
+      0 ∷ 3 ∷ 3 ∷ 2 ∷ 1 ∷ loopArea,
+    )
+    ∷ (
+      guardedOf (loopWith (3 ∷ 6 ∷ [])) (walkWith 2 3 3 going) (record { choice = 1; area = replicate 21 7 }),
+      0 ∷ 3 ∷ 6 ∷ 0 ∷ 2 ∷ loopArea,
+    )
+    ∷ (
+      guardedOf (loopWith (3 ∷ 6 ∷ [])) (walkWith 1 3 6 going) (record { choice = 1; area = replicate 21 7 }),
+      33 ∷ 3 ∷ 6 ∷ 0 ∷ 1 ∷ loopArea,
+    )
+    ∷ (moveOf threeSeven (walkWith 1 5 4 going) 2, 33 ∷ 5 ∷ 4 ∷ 0 ∷ 1 ∷ [])
+    ∷ (moveOf threeSeven (walkWith 1 5 4 diverted) 2, 32 ∷ 5 ∷ 4 ∷ 2 ∷ 1 ∷ [])
+    ∷ (moveOf threeSeven (walkWith 2 5 4 going) 2, 0 ∷ 3 ∷ 5 ∷ 1 ∷ 2 ∷ [])
+    -- the exit is copy 3: a walk that has ended there, one that stands at place 2
+    ∷ (moveOf threeSeven (walkWith 2 3 4 exit) 1, 32 ∷ 3 ∷ 4 ∷ 1 ∷ 2 ∷ [])
+    ∷ (moveOf threeSeven (walkWith 2 3 4 going) 1, 33 ∷ 3 ∷ 4 ∷ 0 ∷ 2 ∷ [])
+    ∷ (moveOf threeSeven (walkWith 2 2 4 exit) 1, 33 ∷ 2 ∷ 4 ∷ 1 ∷ 2 ∷ [])
+    ∷ (moveOf threeSeven (walkWith 2 2 4 going) 1, 0 ∷ 5 ∷ 5 ∷ 0 ∷ 2 ∷ [])
+    -- a guarded start: 8 before 21, 21 before 9, 9 before 33; the walk stays; 0: going, or diverted where nothing fits
+    ∷ (startOf exitChained (walk 5 6 exit) (record { number = 0; area = 7 ∷ [] }), 8 ∷ 5 ∷ 6 ∷ 1 ∷ 1 ∷ 7 ∷ [])
+    ∷ (startOf dear (walk 5 6 exit) (record { number = 0; area = replicate 5 7 }), 21 ∷ 5 ∷ 6 ∷ 1 ∷ 1 ∷ replicate 5 7)
+    ∷ (startOf dear (walk 5 6 exit) (record { number = 0; area = replicate 6 7 }), 9 ∷ 5 ∷ 6 ∷ 1 ∷ 1 ∷ dearArea)
+    ∷ (startOf (loop 6) (walk 5 6 exit) (record { number = 0; area = replicate 21 7 }), 33 ∷ 5 ∷ 6 ∷ 1 ∷ 1 ∷ loopArea)
+    ∷ (startOf (loop 6) (walk 5 6 exit) (record { number = 2; area = replicate 21 7 }), 33 ∷ 5 ∷ 6 ∷ 1 ∷ 1 ∷ loopArea)
+    ∷ (startOf (loop 6) (walk 5 6 exit) (record { number = 1; area = replicate 21 7 }), 0 ∷ 1 ∷ 0 ∷ 0 ∷ 1 ∷ loopArea)
+    ∷ (startOf (loopWith (2 ∷ 6 ∷ [])) (walk 5 6 exit) (record { number = 1; area = replicate 21 7 }), 0 ∷ 1 ∷ 0 ∷ 2 ∷ 1 ∷ loopArea)
+    ∷ (startOf (loopWith (2 ∷ 6 ∷ [])) (walk 5 6 exit) (record { number = 2; area = replicate 21 7 }), 0 ∷ 1 ∷ 0 ∷ 0 ∷ 2 ∷ loopArea)
+    -- a bounded start: 11 before 33; 0: at the entry, or diverted at place 1
+    ∷ (enterOf (2 ∷ []) (walk 5 6 exit) 0, 11 ∷ 5 ∷ 6 ∷ 1 ∷ 1 ∷ [])
+    ∷ (enterOf threeSeven (walk 5 6 exit) 0, 33 ∷ 5 ∷ 6 ∷ 1 ∷ 1 ∷ [])
+    ∷ (enterOf threeSeven (walk 5 6 exit) 3, 33 ∷ 5 ∷ 6 ∷ 1 ∷ 1 ∷ [])
+    ∷ (enterOf six (walk 5 6 exit) 2, 33 ∷ 5 ∷ 6 ∷ 1 ∷ 1 ∷ [])
+    ∷ (enterOf threeSeven (walk 5 6 exit) 1, 0 ∷ 1 ∷ 0 ∷ 0 ∷ 1 ∷ [])
+    ∷ (enterOf threeSeven (walk 5 6 exit) 2, 0 ∷ 2 ∷ 0 ∷ 0 ∷ 2 ∷ [])
+    ∷ (enterOf six (walk 5 6 exit) 1, 0 ∷ 1 ∷ 0 ∷ 0 ∷ 1 ∷ [])
+    ∷ (
+      enterOf (0 ∷ 3 ∷ 3 ∷ 2 ∷ 2 ∷ 3 ∷ 0 ∷ 1 ∷ 1 ∷ 3 ∷ 1 ∷ 2 ∷ 0 ∷ 0 ∷ 3 ∷ 3 ∷ 2 ∷ 3 ∷ 0 ∷ 0 ∷ 3 ∷ 2 ∷ 0 ∷ []) (walk 5 6 exit) 1,
+      0 ∷ 1 ∷ 0 ∷ 2 ∷ 1 ∷ [],
+    )
+    -- the monitor with each budget: diverted where nothing fits, and at the turn that its own budget does not leave
+    ∷ (monitorOf (loopWith (2 ∷ 6 ∷ [])) 1 (1 ∷ []), 32 ∷ 1 ∷ 0 ∷ 2 ∷ [])
+    ∷ (monitorOf (loopWith (3 ∷ 6 ∷ [])) 1 (1 ∷ 1 ∷ []), 0 ∷ 0 ∷ 3 ∷ 3 ∷ 2 ∷ [])
+    ∷ (monitorOf (loopWith (3 ∷ 6 ∷ [])) 2 (1 ∷ 1 ∷ []), 0 ∷ 0 ∷ 3 ∷ 6 ∷ 0 ∷ [])
+    -- the listing gives all budgets
+    ∷ (
+      listingFor (inBytes (loopWith (3 ∷ 7 ∷ []))),
+      lines ("copies 5 edges 6 budget 3 7" ∷ "1 1 3 4" ∷ "2 1 6 5" ∷ "3 2 0" ∷ "4 3 3 0 3" ∷ "5 3 6 4 3" ∷ []),
+    )
+    ∷ (listingFor (inBytes (loopWith (7 ∷ 7 ∷ []))), lines ("refused 41" ∷ []))
     -- the listing program: no byte, an odd byte more or less, an odd number of bytes of a long file, one word too few
     ∷ (listingFor [], lines ("refused 1" ∷ []))
     ∷ (listingFor (0 ∷ inBytes least), lines ("refused 1" ∷ []))

@@ -1,5 +1,5 @@
 -- A sheet of the first version keeps the rule of document 01: its entries keep their clauses exactly where it has one copy of block 1, and
--- its targets are then 0 or 2 to C. Rests on base Lists and Truth, Headings, RuleRead.
+-- its targets are then 0 or 2 to C. Rests on base Truth, Lists and Numbers, Headings, RuleRead.
 use mathlib.Core.Path.{_≡_, refl, sym, ap, subst, _∙_}
 use mathlib.Core.Logic.{_↔_}
 use mathlib.Core.Bool.{true, false, _&&_, not}
@@ -13,6 +13,7 @@ use Rattle.base.specs.Lists.{any, from, member, lastOf, nth}
 use Rattle.base.specs.Checks.{outside}
 use Rattle.base.proofs.Truth.{and-i, or-r, any-false, none-any}
 use Rattle.base.proofs.Lists.{member-i, from-i, from-e}
+use Rattle.base.proofs.Numbers.{one-last}
 use Rattle.base.proofs.Orders.{not-outside}
 use Rattle.formats.specs.Versions.{isSecond, budgetsIn, largestIn}
 use Rattle.formats.specs.BoundedSheet.{heading, entriesIn, blockAt, lowAt, targetAt}
@@ -20,13 +21,6 @@ use Rattle.formats.specs.Rule11.{copiesOf, notOneOf, startCount, badLows
 use Rattle.formats.specs.Rule11.{Ruled, Entered}
 use Rattle.formats.proofs.Headings.{Proper, read-proper, largest-is}
 use Rattle.formats.proofs.RuleRead.{starts-front, start-out, entry-names, start-named}
-
--- the only number of a list is its first and its last
-first-last : (bs : List ℕ) → length bs ≡ 1 → nth bs 1 ≡ lastOf bs
-unfolding lastOf
-first-last [] e = absurd (omega arith)
-first-last (b ∷ []) e = refl
-first-last (b ∷ c ∷ bs) e = absurd (omega arith)
 
 module _ (s : List ℕ) (R : Ruled (heading s) s) (long : 3 ≤ length s) (first : isSecond s ≡ false) where
   there : heading s .records ≤ length s
@@ -57,7 +51,7 @@ module _ (s : List ℕ) (R : Ruled (heading s) s) (long : 3 ≤ length s) (first
         ltb-false (h .largest) (lowAt h s 1)
             (any-false (λ i. ltb (h .largest) (lowAt h s i)) (from 1 (h .copies)) (R .lows) (from-i (h .copies) 1 1 (omega arith) (omega (arith, o .0)))),
         largest-is s,
-        first-last (budgetsIn s) (one .0),
+        one-last (budgetsIn s) (one .0),
       ) in
       let fit : entryFits h s (nth (budgetsIn s) 1) 1 ≡ true
       = or-r (eqb 1 0) (and-i (ap not (not-outside 1 (h .copies) 1 (omega arith) (o .0)))

@@ -19,11 +19,11 @@ use Rattle.formats.specs.Listing.{digits, decimal, line, headingLine, co
 use Rattle.formats.specs.Catalogue.{sheetsUpTo, sheets}
 use Rattle.formats.specs.Report.{unusedBlocks, refusedAs, figuresLine, refusedLine, sheetLine, plus, sums, totalLine}
 use Rattle.formats.specs.Report.{greater, mostOf, most, mostLine, unusedLine, unusedLines, eachSheet, reportOf}
-use Rattle.formats.specs.Samples.{paper, least, nine, inBytes, text, lines}
+use Rattle.formats.specs.Samples.{paper, loopSaying, least, nine, threeSeven, inBytes, text, lines}
 use Rattle.formats.specs.Refusals.{sheetShown, outcome, refusals}
 
 pub pinned : map (λ r. outcome (r .0)) refusals ≡ map (λ r. r .1) refusals
-unfolding refusals paper least nine inBytes text lines
+unfolding refusals paper loopSaying least nine threeSeven inBytes text lines
     any all keep each from member distinct equal rising lastOf before refused over outside
     follow chainLength unsound isSecond budgetsAt budgetCount budgetsIn badBudget badBudgets header costWord chain met successorCount
     short badCounts badLength costFits badCosts badTargets badChains exitChain sheetOrder sheetRefusal countOrder countSuccessors

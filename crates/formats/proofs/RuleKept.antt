@@ -121,7 +121,8 @@ module _ (h : Heading) (s : List ℕ) (rs : List Row) (k : ℕ) (L : Laid h s rs
       rw (copy-is i a, copy-is (suc i) c)
       (ap not (rising-chosen (map (λ r. r .copy) rs) (F .rise) i (suc i) _ _ (omega arith) (copy-of i a) (copy-of (suc i) c))))
 
-  once : (v : ℕ) → (O : Once v rs) → copiesOf h s v ≡ O .at ∷ []
+  -- where one row alone is of a block, its copy alone is
+  pub once : (v : ℕ) → (O : Once v rs) → copiesOf h s v ≡ O .at ∷ []
   unfolding copiesOf
   once v O =
       let l = chosen-le rs (O .at) (O .row) (O .here) in

@@ -11,7 +11,7 @@ use Rattle.formats.specs.File.{wordsOf}
 use Rattle.formats.specs.Listing.{decimal, listingOf}
 use Rattle.formats.specs.Catalogue.{sheetsUpTo, sheets}
 use Rattle.formats.specs.Report.{Figures, unusedBlocks, refusedAs, reportOf}
-use Rattle.formats.specs.Samples.{paper, nine, inBytes, lines}
+use Rattle.formats.specs.Samples.{paper, loopSaying, loopWith, nine, threeSeven, inBytes, lines}
 
 -- one input of one call
 pub data Case : Type 0 where
@@ -107,7 +107,35 @@ refusals =
     ∷ (graphOf (2 ∷ 1 ∷ 0 ∷ 0 ∷ 0 ∷ 0 ∷ 1 ∷ 2 ∷ 1 ∷ []), 7 ∷ [])
     ∷ (graphOf (2 ∷ 1 ∷ 0 ∷ 0 ∷ 0 ∷ 0 ∷ 1 ∷ 2 ∷ 0 ∷ []), 8 ∷ [])
     ∷ (graphOf (2 ∷ 1 ∷ 0 ∷ 0 ∷ 1 ∷ 0 ∷ 0 ∷ 2 ∷ 0 ∷ []), 0 ∷ [])
+    -- the second version, 1 to 3: a row of 0 alone, 0 and N, N outside, a row that ends before its number of budgets or before its budgets, one
+    -- word less and one more
+    ∷ (graphOf (0 ∷ []), 1 ∷ [])
+    ∷ (graphOf (0 ∷ 3 ∷ []), 1 ∷ [])
+    ∷ (graphOf (0 ∷ 1 ∷ 3 ∷ []), 2 ∷ [])
+    ∷ (graphOf (0 ∷ 129 ∷ 3 ∷ []), 2 ∷ [])
+    ∷ (graphOf (0 ∷ 3 ∷ 0 ∷ []), 2 ∷ [])
+    ∷ (graphOf (0 ∷ 3 ∷ 513 ∷ []), 2 ∷ [])
+    ∷ (graphOf (0 ∷ 3 ∷ 3 ∷ []), 3 ∷ [])
+    ∷ (graphOf (0 ∷ 3 ∷ 3 ∷ 2 ∷ 7 ∷ []), 3 ∷ [])
+    ∷ (graphOf (loopSaying 1 (3 ∷ 7 ∷ [])), 3 ∷ [])
+    ∷ (graphOf (loopSaying 3 (3 ∷ 7 ∷ [])), 3 ∷ [])
+    -- 4: each budget at and past its limit, also where there are too many or they fall
+    ∷ (graphOf (loopWith (499 ∷ 500 ∷ [])), 0 ∷ [])
+    ∷ (graphOf (loopWith (499 ∷ 501 ∷ [])), 4 ∷ [])
+    ∷ (graphOf (loopWith (501 ∷ 7 ∷ [])), 4 ∷ [])
+    ∷ (graphOf (loopWith (1 ∷ 2 ∷ 3 ∷ 4 ∷ 501 ∷ [])), 4 ∷ [])
+    -- 41: none, five, equal, falling; four; also where block 1 has a cost
+    ∷ (graphOf (loopWith []), 41 ∷ [])
+    ∷ (graphOf (loopWith (1 ∷ 2 ∷ 3 ∷ 4 ∷ 5 ∷ [])), 41 ∷ [])
+    ∷ (graphOf (loopWith (7 ∷ 7 ∷ [])), 41 ∷ [])
+    ∷ (graphOf (loopWith (3 ∷ 7 ∷ 6 ∷ [])), 41 ∷ [])
+    ∷ (graphOf (loopWith (0 ∷ [])), 0 ∷ [])
+    ∷ (graphOf (loopWith (0 ∷ 1 ∷ 2 ∷ 3 ∷ [])), 0 ∷ [])
+    ∷ (graphOf (set (loopWith (7 ∷ 7 ∷ [])) 6 1), 41 ∷ [])
+    ∷ (graphOf (set (loopWith (6 ∷ 7 ∷ [])) 6 1), 5 ∷ [])
+    ∷ (graphOf (set (loopWith (6 ∷ 7 ∷ [])) 12 1), 6 ∷ [])
     -- the number of successors; the sheet's own numbers come before 33
+    ∷ (countOf (loopWith (3 ∷ 7 ∷ [])) 3, 0 ∷ 2 ∷ [])
     ∷ (countOf (paper 9) 1, 0 ∷ 1 ∷ [])
     ∷ (countOf (paper 9) 2, 0 ∷ 0 ∷ [])
     ∷ (countOf (paper 9) 3, 0 ∷ 2 ∷ [])
@@ -147,6 +175,43 @@ refusals =
     ∷ (boundedOf (2 ∷ 1 ∷ 0 ∷ 1 ∷ 0 ∷ 1 ∷ 2 ∷ 0 ∷ 0 ∷ 2 ∷ 0 ∷ []), 0 ∷ [])
     ∷ (boundedOf (2 ∷ 1 ∷ 0 ∷ 1 ∷ 0 ∷ 1 ∷ 2 ∷ 0 ∷ 0 ∷ 2 ∷ 0 ∷ 0 ∷ []), 11 ∷ [])
     ∷ (boundedOf (2 ∷ 1 ∷ 0 ∷ 1 ∷ 0 ∷ 1 ∷ 2 ∷ 0 ∷ 0 ∷ 2 ∷ []), 11 ∷ [])
+    -- rule 11 in the second version: a built sheet; C and F; the length; a budget above 500; none; equal ones; falling ones
+    ∷ (boundedOf threeSeven, 0 ∷ [])
+    ∷ (boundedOf (0 ∷ []), 11 ∷ [])
+    ∷ (boundedOf (0 ∷ 5 ∷ []), 11 ∷ [])
+    ∷ (boundedOf (0 ∷ 5 ∷ 6 ∷ []), 11 ∷ [])
+    ∷ (boundedOf (set threeSeven 1 4), 11 ∷ [])
+    ∷ (boundedOf (set threeSeven 3 1), 11 ∷ [])
+    ∷ (boundedOf (threeSeven ++ (0 ∷ [])), 11 ∷ [])
+    ∷ (boundedOf (set threeSeven 5 500), 0 ∷ [])
+    ∷ (boundedOf (set threeSeven 5 501), 11 ∷ [])
+    ∷ (boundedOf (set (set threeSeven 4 7) 6 1), 11 ∷ [])
+    ∷ (boundedOf (set threeSeven 4 8), 11 ∷ [])
+    ∷ (boundedOf (set threeSeven 5 6), 0 ∷ [])
+    -- a low above the largest budget; a second copy of block 2
+    ∷ (boundedOf (set threeSeven 5 5), 11 ∷ [])
+    ∷ (boundedOf (set threeSeven 17 2), 11 ∷ [])
+    -- an entry: 0; the exit; a copy of another block; beyond C; above its budget; the last 0; a start copy that no entry names
+    ∷ (boundedOf (set threeSeven 6 0), 11 ∷ [])
+    ∷ (boundedOf (set threeSeven 6 3), 11 ∷ [])
+    ∷ (boundedOf (set threeSeven 6 4), 11 ∷ [])
+    ∷ (boundedOf (set threeSeven 6 6), 11 ∷ [])
+    ∷ (boundedOf (set threeSeven 6 2), 11 ∷ [])
+    ∷ (boundedOf (set (set (set threeSeven 4 6) 6 2) 7 1), 0 ∷ [])
+    ∷ (boundedOf (set (set (set threeSeven 4 6) 6 2) 7 0), 11 ∷ [])
+    ∷ (boundedOf (set threeSeven 7 1), 11 ∷ [])
+    ∷ (boundedOf (0 ∷ 2 ∷ 1 ∷ 2 ∷ 0 ∷ 3 ∷ 0 ∷ 1 ∷ 1 ∷ 3 ∷ 1 ∷ 2 ∷ 0 ∷ 0 ∷ 2 ∷ 0 ∷ []), 0 ∷ [])
+    ∷ (boundedOf (0 ∷ 2 ∷ 1 ∷ 2 ∷ 3 ∷ 4 ∷ 1 ∷ 1 ∷ 1 ∷ 3 ∷ 1 ∷ 2 ∷ 0 ∷ 0 ∷ 2 ∷ 0 ∷ []), 0 ∷ [])
+    -- a target at each start copy, at the exit, beyond C
+    ∷ (boundedOf (set threeSeven 23 1), 11 ∷ [])
+    ∷ (boundedOf (set threeSeven 23 2), 11 ∷ [])
+    ∷ (boundedOf (set threeSeven 23 3), 0 ∷ [])
+    ∷ (boundedOf (set threeSeven 23 6), 11 ∷ [])
+    -- in the first version a second copy of block 1 is not named
+    ∷ (boundedOf (3 ∷ 2 ∷ 3 ∷ 1 ∷ 0 ∷ 1 ∷ 1 ∷ 3 ∷ 2 ∷ 2 ∷ 0 ∷ 0 ∷ 3 ∷ 0 ∷ 3 ∷ 0 ∷ []), 11 ∷ [])
+    ∷ (partOf threeSeven 5, 0 ∷ 4 ∷ 6 ∷ 3 ∷ 0 ∷ [])
+    ∷ (partOf threeSeven 3, 0 ∷ [])
+    ∷ (partOf threeSeven 6, 33 ∷ [])
     -- the edge words of a copy: of the start, of a copy with two, of the exit; 33 outside; 11 before 33
     ∷ (partOf nine 1, 0 ∷ 3 ∷ 0 ∷ [])
     ∷ (partOf nine 7, 0 ∷ 8 ∷ 9 ∷ 9 ∷ 0 ∷ [])
@@ -168,6 +233,10 @@ refusals =
     ∷ (
       textOf (2 ∷ 1 ∷ 0 ∷ 1 ∷ 0 ∷ 1 ∷ 2 ∷ 0 ∷ 0 ∷ 2 ∷ 0 ∷ []),
       lines ("copies 2 edges 1 budget 0" ∷ "1 1 0 2" ∷ "2 2 0" ∷ []),
+    )
+    ∷ (
+      textOf threeSeven,
+      lines ("copies 5 edges 6 budget 3 7" ∷ "1 1 3 4" ∷ "2 1 6 5" ∷ "3 2 0" ∷ "4 3 3 0 3" ∷ "5 3 6 4 3" ∷ []),
     )
     -- a catalogue's sheets: none; lengths 2 and 0; words after the last that is asked for; a length beyond the words left, with and without words
     ∷ (sheetsOf 9 [], [])

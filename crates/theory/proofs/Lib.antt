@@ -23,3 +23,5 @@ pub mod Shape
 pub mod Step
 -- a block has a copy exactly where a kept path enters it: used
 pub mod Used
+-- a walk that is diverted before it sets out, where nothing fits its budget: stopped-agrees, stopped-paths
+pub mod Stopped

@@ -97,7 +97,7 @@ join-e (some d ∷ os) c cs m =
 
 -- THE START COPIES
 
-start-i : (g : Graph) (bs : List ℕ) (b a : ℕ) → List·Memᴰ b bs → lowOf g 1 b ≡ some a
+pub start-i : (g : Graph) (bs : List ℕ) (b a : ℕ) → List·Memᴰ b bs → lowOf g 1 b ≡ some a
     → List·Memᴰ (copyOf 1 a) (startCopies g bs)
 unfolding startCopies copyFor
 start-i g bs b a m e =

@@ -98,31 +98,74 @@ unfolding final
 final-append step [] js s = refl
 final-append step (i ∷ is) js s = final-append step is js (step s i .after)
 
--- steps of one kind over a list run as steps of another over another list
-pub record RunsAs {S I J : Type 0} (call : S → I → Reply S) (step : S → J → Reply S) (s : S) (is : List I) (js : List J) : Type 0 where
-  pub answer : answers call s is ≡ answers step s js
-  pub last : final call s is ≡ final step s js
-  pub show : (view : S → ℕ) → shown call view s is ≡ shown step view s js
+-- steps on a form run as steps on what it is made from, over another list
+pub record RunsAs {S T I J : Type 0} (form : S → T) (call : T → I → Reply T) (step : S → J → Reply S) (s : S) (is : List I) (js : List J) : Type 0 where
+  pub answer : answers call (form s) is ≡ answers step s js
+  pub last : final call (form s) is ≡ form (final step s js)
+  pub show : (view : T → ℕ) → shown call view (form s) is ≡ shown step (λ s. view (form s)) s js
 
-pub unchanged-as : {S I : Type 0} {call step : S → I → Reply S} {s : S} {is : List I} → RunsAs call step s is is
-    → (view : S → ℕ) (stands : S → End) (bs : List ℕ) → Unchanged step view stands s is bs ↔ Unchanged call view stands s is bs
+pub unchanged-as : {S T I : Type 0} {form : S → T} {call : T → I → Reply T} {step : S → I → Reply S} {s : S} {is : List I}
+    → RunsAs form call step s is is
+    → (view : T → ℕ) (stands : T → End) (bs : List ℕ)
+    → Unchanged step (λ s. view (form s)) (λ s. stands (form s)) s is bs ↔ Unchanged call view stands (form s) is bs
 unchanged-as {S} r view stands bs = (
   λ u. record { answer = r .answer ∙ u .answer; blocks = r .show view ∙ u .blocks; end = ap stands (r .last) ∙ u .end },
   λ u. record { answer = sym (r .answer) ∙ u .answer; blocks = sym (r .show view) ∙ u .blocks; end = sym (ap stands (r .last)) ∙ u .end },
 )
 
+-- a reply in a form
+abbrev pub formed : {S T : Type 0} → (S → T) → Reply S → Reply T
+formed form r = record { answer = r .answer; after = form (r .after) }
+
 -- steps that answer as a machine does, wherever an invariant P holds and the input passes Q, run as the machine does
-module _ {S X I : Type 0} (m : Machine S X) (call : S → I → Reply S) (choice : I → ℕ) (P : S → Type 0) (Q : I → Type 0)
+module _ {S T X I : Type 0} (m : Machine S X) (form : S → T) (call : T → I → Reply T) (choice : I → ℕ) (P : S → Type 0) (Q : I → Type 0)
     (kept : (s : S) → P s → m .stands s ≡ going → (k : ℕ) (x : X) → chosen (m .targets s) k ≡ some x → P (m .take s x))
-    (same : (s : S) → P s → (i : I) → Q i → call s i ≡ reply m s (choice i)) where
-  pub runs-as : (is : List I) → ((i : I) → List·Memᴰ i is → Q i) → (s : S) → P s → RunsAs call (reply m) s is (map choice is)
+    (same : (s : S) → P s → (i : I) → Q i → call (form s) i ≡ formed form (reply m s (choice i))) where
+  pub runs-as : (is : List I) → ((i : I) → List·Memᴰ i is → Q i) → (s : S) → P s → RunsAs form call (reply m) s is (map choice is)
   unfolding answers final shown
   runs-as [] q s h = record { answer = refl; last = refl; show = λ view. refl }
   runs-as (i ∷ is) q s h =
       let e = same s h i (q i (List·Memᴰ·head refl)) in
       let r = runs-as is (λ j n. q j (List·Memᴰ·tail n)) (reply m s (choice i) .after) (keeps m P kept s h (choice i)) in
       record {
-        answer = ap₂ (λ x xs. x ∷ xs) (ap (λ (z : Reply S). z .answer) e) (ap (λ (z : Reply S). answers call (z .after) is) e ∙ r .answer);
-        last = ap (λ (z : Reply S). final call (z .after) is) e ∙ r .last;
-        show = λ view. ap (λ xs. view s ∷ xs) (ap (λ (z : Reply S). shown call view (z .after) is) e ∙ r .show view);
+        answer = ap₂ (λ x xs. x ∷ xs) (ap (λ (z : Reply T). z .answer) e) (ap (λ (z : Reply T). answers call (z .after) is) e ∙ r .answer);
+        last = ap (λ (z : Reply T). final call (z .after) is) e ∙ r .last;
+        show = λ view. ap (λ xs. view (form s) ∷ xs) (ap (λ (z : Reply T). shown call view (z .after) is) e ∙ r .show view);
       }
+
+-- STEPS ON A FORM that go as steps on what it stands for run as they do
+pub record SameStep {S U : Type 0} (form : S → U) (r : Reply S) (q : Reply U) : Type 0 where
+  pub answer : r .answer ≡ q .answer
+  pub after : form (r .after) ≡ q .after
+
+module _ {S U I : Type 0} (form : S → U) (step : S → I → Reply S) (call : U → I → Reply U)
+    (same : (s : S) (i : I) → SameStep form (step s i) (call (form s) i)) where
+  pub answers-as : (is : List I) (s : S) → answers step s is ≡ answers call (form s) is
+  unfolding answers
+  answers-as [] s = refl
+  answers-as (i ∷ is) s =
+      let e = same s i in
+      ap₂ (λ x xs. x ∷ xs) (e .answer)
+      (answers-as is (step s i .after) ∙ ap (λ (z : U). answers call z is) (e .after))
+
+  pub final-as : (is : List I) (s : S) → form (final step s is) ≡ final call (form s) is
+  unfolding final
+  final-as [] s = refl
+  final-as (i ∷ is) s = final-as is (step s i .after) ∙ ap (λ (z : U). final call z is) (same s i .after)
+
+  pub shown-as : (view : U → ℕ) (is : List I) (s : S) → shown step (λ s. view (form s)) s is ≡ shown call view (form s) is
+  unfolding shown
+  shown-as view [] s = refl
+  shown-as view (i ∷ is) s =
+      ap (λ (xs : List ℕ). view (form s) ∷ xs)
+      (shown-as view is (step s i .after) ∙ ap (λ (z : U). shown call view z is) (same s i .after))
+
+  pub unchanged-form : (view : U → ℕ) (stands : U → End) (s : S) (is : List I) (bs : List ℕ)
+      → Unchanged step (λ s. view (form s)) (λ s. stands (form s)) s is bs ↔ Unchanged call view stands (form s) is bs
+  unchanged-form view stands s is bs =
+      let a = answers-as is s in
+      let v = shown-as view is s in
+      let f = ap stands (final-as is s) in (
+        λ u. record { answer = sym a ∙ u .answer; blocks = sym v ∙ u .blocks; end = sym f ∙ u .end },
+        λ u. record { answer = a ∙ u .answer; blocks = v ∙ u .blocks; end = f ∙ u .end },
+      )

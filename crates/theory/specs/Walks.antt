@@ -26,6 +26,10 @@ startAt p = record { place = p; count = 0; end = going }
 abbrev pub starting : Walk
 starting = startAt 1
 
+-- a walk that is diverted before it sets out (document 02, K2: "Where nothing fits it starts diverted at place 1, count 0")
+abbrev pub stopped : Walk
+stopped = record { place = 1; count = 0; end = diverted }
+
 -- the end of a walk that has entered the place p, where x is the exit's place
 unfoldable pub endAt : ℕ → ℕ → End
 endAt x p = elim (eqb p x) [ true ↦ exit | false ↦ going ]
