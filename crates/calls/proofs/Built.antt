@@ -34,6 +34,7 @@ use Rattle.formats.proofs.Reading.{Laid, laid, counted}
 use Rattle.formats.proofs.RuleKept.{Once, RowsFit, EntriesFit, Fits, once, fits-rule}
 use Rattle.formats.proofs.WordsFit.{words-fit}
 use Rattle.calls.specs.SheetGraph.{task, graph, rowOf, rowsOf, entryFor, prefaceFor, boundedSheet, readBounded}
+use Rattle.calls.specs.Build.{copyCount, edgeTotal}
 use Rattle.calls.proofs.SheetLaws.{settingWith}
 use Rattle.calls.proofs.SettingRows.{row-at, lays-out, rises, first-copies, startsIn, exitAt, exit-here, rows-fit, entries-fit}
 
@@ -42,8 +43,8 @@ pub record Buildable (w : List ℕ) : Type 0 where
   pub ok : sheetRefusal w ≡ 0
   pub start : ℕ
   pub opens : lowOf (graph w) 1 (largestIn w) ≡ some start
-  pub few : heading (boundedSheet w) .copies ≤ mostCopies
-  pub edges : heading (boundedSheet w) .edges ≤ mostBoundedEdges
+  pub few : copyCount (task w) ≤ mostCopies
+  pub edges : edgeTotal (task w) ≤ mostBoundedEdges
 
 module _ (w : List ℕ) (K : Buildable w) where
   abbrev pub A : Accepted w
@@ -151,11 +152,10 @@ module _ (w : List ℕ) (K : Buildable w) where
       )
 
   fits : Fits preface rs
-  unfolding boundedSheet
   fits =
       record {
-        few = (two-rows, omega (arith, K .few, sheet-laid .copies));
-        edges = (some-edge, omega (arith, K .edges, sheet-laid .edges));
+        few = (two-rows, omega (arith, K .few, rows-are));
+        edges = (some-edge, K .edges);
         proper = proper;
         claims = A .claims;
         starts = startsIn setting;

@@ -103,7 +103,7 @@ pub before-9 : numbersBefore 9 (numbersOf buildOrder) ∷ numbersBefore 9 (numbe
 unfolding over numbersOf numbersBefore sheetOrder frontOrder weighOrder buildOrder moveOrder guardedOrder
 before-9 = refl
 
-pub largest-sheets : map (λ (p : ℕ × ℕ). tooMany (record { copies = p .0; edges = p .1; largest = 0; records = 3 }))
+pub largest-sheets : map (λ (p : ℕ × ℕ). tooMany (p .0) (p .1))
     ((4096, 8192) ∷ (4097, 8192) ∷ (4096, 8193) ∷ []) ≡ false ∷ true ∷ true ∷ []
 unfolding tooMany
 largest-sheets = refl

@@ -1,5 +1,5 @@
 -- THE BUILD as a call: its answer, and what it leaves in the work area and in the output row (document 01, the tables of refusals).
--- Rests on base Checks, formats Limits and BoundedSheet, SheetGraph, Weigh.
+-- Rests on base Checks, theory Tasks, formats Limits and BoundedSheet, SheetGraph, Weigh.
 use mathlib.Core.Bool.{Bool, _||_}
 use mathlib.Core.List.{List, [], _∷_, _++_}
 use Prim.Native.Nat.{ℕ}
@@ -7,15 +7,25 @@ use lib.Dec.{ltb}
 use lib.ListN.{length, drop}
 use Rattle.base.specs.Checks.{Order, refused, over, lentAfter}
 use Rattle.formats.specs.Limits.{mostCopies, mostBoundedEdges}
-use Rattle.formats.specs.BoundedSheet.{Heading, heading}
-use Rattle.calls.specs.SheetGraph.{task, boundedSheet}
+use Rattle.theory.specs.Tasks.{Task, copiesIn}
+use Rattle.formats.specs.BoundedSheet.{edgeCount}
+use Rattle.calls.specs.SheetGraph.{task, rowsOf, boundedSheet}
 use Rattle.calls.specs.Weigh.{Weighing, weighOrder, areaAfter}
 
--- 10: "C above 4,096 or F above 8,192"
-unfoldable pub tooMany : Heading → Bool
-tooMany h = ltb mostCopies (h .copies) || ltb mostBoundedEdges (h .edges)
+-- 10: "C above 4,096 or F above 8,192", of c copies and f edges, and of a task
+unfoldable pub tooMany : ℕ → ℕ → Bool
+tooMany c f = ltb mostCopies c || ltb mostBoundedEdges f
 
--- 22: "output row shorter than 3 + 3C + 2F words"
+abbrev pub copyCount : Task → ℕ
+copyCount T = length (copiesIn T)
+
+abbrev pub edgeTotal : Task → ℕ
+edgeTotal T = edgeCount (rowsOf (T .graph) (copiesIn T))
+
+abbrev pub tooLarge : Task → Bool
+tooLarge T = tooMany (copyCount T) (edgeTotal T)
+
+-- 22: "output row shorter than 3 + 3C + 2F words"; "22 count[s] the new header"
 unfoldable pub smallOutput : List ℕ → List ℕ → Bool
 smallOutput w output = ltb (length output) (length (boundedSheet w))
 
@@ -32,7 +42,7 @@ weighing i = record { sheet = i .sheet; area = i .area }
 unfoldable pub buildOrder : Order Lent
 buildOrder =
     over weighing weighOrder
-    ++ ((10, λ i. tooMany (heading (boundedSheet (i .sheet)))) ∷ (22, λ i. smallOutput (i .sheet) (i .output)) ∷ [])
+    ++ ((10, λ i. tooLarge (task (i .sheet))) ∷ (22, λ i. smallOutput (i .sheet) (i .output)) ∷ [])
 
 -- "An accepted build fills exactly its words"
 unfoldable pub outputAfter : List ℕ → ℕ → List ℕ → List ℕ

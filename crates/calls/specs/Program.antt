@@ -5,16 +5,15 @@ use mathlib.Core.List.{List, [], _∷_, _++_}
 use Prim.Native.Nat.{ℕ, zero, suc}
 use Rattle.base.specs.Checks.{Order, refused}
 use Rattle.formats.specs.GraphSheet.{sheetOrder}
-use Rattle.formats.specs.BoundedSheet.{heading}
 use Rattle.formats.specs.File.{wordsOf, oddBytes}
 use Rattle.formats.specs.Listing.{listingOf, refusalOf}
 use Rattle.calls.specs.SheetGraph.{task, boundedSheet}
 use Rattle.calls.specs.Weigh.{nothingFits}
-use Rattle.calls.specs.Build.{tooMany}
+use Rattle.calls.specs.Build.{tooLarge}
 
 -- the build's numbers without 21 and 22: the program's own buffers are never too short
 unfoldable pub listingOrder : Order (List ℕ)
-listingOrder = sheetOrder ++ ((9, λ w. nothingFits (task w)) ∷ (10, λ w. tooMany (heading (boundedSheet w))) ∷ [])
+listingOrder = sheetOrder ++ ((9, λ w. nothingFits (task w)) ∷ (10, λ w. tooLarge (task w)) ∷ [])
 
 -- of a graph sheet: its listing, "or `refused` and the number"
 unfoldable pub sheetListing : List ℕ → List ℕ
