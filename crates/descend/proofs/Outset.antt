@@ -149,8 +149,8 @@ module _ {row lows bs : List ℕ} {b : ℕ} {m₀ m : List ℕ} {i left : ℕ} (
       subst (λ (y : ℕ). Met b m 1 (lowOf (graphIn row) 1 y)) (k .3) (O .met (k .0) (k .1) (omega (arith, k .2)))))
 
 -- the descent has stopped
-pub outset-stops : {row bs : List ℕ} {b : ℕ} {m : List ℕ} → Only (graphIn row) b (λ c. isIn c (copiesIn (taskIn row bs b))) m
+pub outset-stops : (row bs : List ℕ) (b : ℕ) (m : List ℕ) → Only (graphIn row) b (λ c. isIn c (copiesIn (taskIn row bs b))) m
     → 0 ≡ edgesLeft (graphIn row) (blocksIn row) b m
     → (0 ≡ suc mostBoundedEdges - edgesOf (graphIn row) (copiesIn (taskIn row bs b)))
     × (0 < 0 → markedCopies (blocksIn row) b m ≡ copiesIn (taskIn row bs b))
-outset-stops {row} {bs} {b} {m} o e = all-taken row bs b m o 0 e (λ l. absurd (omega arith))
+outset-stops row bs b m o e = all-taken row bs b m o 0 e (λ l. absurd (omega arith))
