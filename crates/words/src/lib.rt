@@ -22,6 +22,11 @@ pub const MOST_EDGES: usize = 512;
 
 pub const MOST_BUDGET: usize = 500;
 
+// "1 to 4 strictly rising budgets"
+pub const LEAST_BUDGETS: usize = 1;
+
+pub const MOST_BUDGETS: usize = 4;
+
 // N × (B + 1) at most: the cells of the largest work area.
 pub const MOST_CELLS: usize = MOST_BLOCKS * (MOST_BUDGET + 1);
 
