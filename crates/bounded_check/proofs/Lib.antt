@@ -2,3 +2,5 @@
 pub mod Rule
 -- the start copies, counted by a loop: starts-are
 pub mod Starts
+-- the budgets and the entries as parts of the sheet: budgets-are, entries-are
+pub mod Header

@@ -1,7 +1,7 @@
 -- The start copies are counted from the first copy on, up to the first copy of another block.
 -- Rests on base Truth, formats RuleRead, record_check Records.
 use mathlib.Core.Path.{_≡_, sym, ap, _∙_}
-use mathlib.Core.Bool.{false}
+use mathlib.Core.Bool.{Bool, false}
 use mathlib.Core.List.{List}
 use Prim.Native.Nat.{ℕ, _+_, _≤_, _<_}
 use native.Mathlib.Omega.{arith}
@@ -25,10 +25,6 @@ module _ (h : Heading) (s : List ℕ) (R : badRecords h s ≡ false) where
   abbrev n : ℕ
   n = startCount h s
 
-  -- the copies of block 1, where k are counted
-  pub starts-are : {k : ℕ} → k ≡ n → copiesOf h s 1 ≡ from 1 k
-  starts-are e = ordered-front h s (in-order .0) (in-order .1) ∙ ap (from 1) (sym e)
-
   -- THE LOOP has passed k copies of block 1; v is the block of the next
   module _ {k : ℕ} (l : k ≤ n) where
     module _ {v : ℕ} (q : v ≡ blockAt h s (k + 1)) where
@@ -44,3 +40,9 @@ module _ (h : Heading) (s : List ℕ) (R : badRecords h s ≡ false) where
 
     pub no-more : h .copies ≤ k → k ≡ n
     no-more m = omega (arith, ordered-most h s (in-order .0) (in-order .1))
+
+-- the copies of block 1, where k are counted and the test of the records passed
+pub starts-are : (h : Heading) (s : List ℕ) {p : Bool} {k : ℕ} → p ≡ badRecords h s → p ≡ false → k ≡ startCount h s → copiesOf h s 1 ≡ from 1 k
+starts-are h s P e q =
+    let o = in-order h s (sym P ∙ e) in
+    ordered-front h s (o .0) (o .1) ∙ ap (from 1) (sym q)

@@ -14,6 +14,7 @@ ghost use Rattle.formats.specs.Rule11.{copiesOf, startCount, badTargetWords, bo
 ghost use Rattle.record_check.specs.Records.{badRecords};
 ghost use Rattle.entry_check.specs.Entries.{badEntryWords};
 ghost use Rattle.bounded_check.specs.Form.{badForm};
+ghost use Rattle.bounded_check.specs.Behind.{badBehind};
 use budgets::bad_budget;
 use budgets::bad_budgets;
 use entry_check::bad_entry_words;
@@ -133,6 +134,22 @@ fn bad_entries(s: &[u16], at: usize, c: usize, f: usize, b: usize, k: usize) -> 
     bad_entry_words(s, at, c, f, b, k, bs, &one)
 }
 
+// The clauses behind the header: the copies and the order of the edges, then the targets, then the entries.
+fn bad_behind(s: &[u16], at: usize, c: usize, f: usize, b: usize) -> bool
+    requires { ⌜ Formed (headingOf at c f b) (now s) ⌝ }
+    requires { ⌜ (leastWords ≤ length (now s)) × (heading (now s) .records ≤ length (now s)) × (1 ≤ budgetCount (now s)) ⌝ }
+    ensures { λ r. ⌜ r ≡ badBehind (headingOf at c f b) (now (s .entry)) ⌝ }
+{
+    if bad_copies(s, at, c, f, b) {
+        return true;
+    }
+    let k = count_starts(s, at, c, f, b);
+    if bad_targets(s, at, c, f, b, k) {
+        return true;
+    }
+    bad_entries(s, at, c, f, b, k)
+}
+
 // 11 where a clause of rule 11 is broken, else 0.
 pub fn check_bounded(s: &[u16]) -> u16
     ensures { λ r. ⌜ r ≡ boundedRefusal (now (s .entry)) ⌝ }
@@ -141,14 +158,7 @@ pub fn check_bounded(s: &[u16]) -> u16
         return 11;
     }
     let h = read_heading(s);
-    if bad_copies(s, h.records, h.copies, h.edges, h.largest) {
-        return 11;
-    }
-    let k = count_starts(s, h.records, h.copies, h.edges, h.largest);
-    if bad_targets(s, h.records, h.copies, h.edges, h.largest, k) {
-        return 11;
-    }
-    if bad_entries(s, h.records, h.copies, h.edges, h.largest, k) {
+    if bad_behind(s, h.records, h.copies, h.edges, h.largest) {
         return 11;
     }
     0

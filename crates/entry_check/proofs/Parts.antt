@@ -46,11 +46,21 @@ module _ (h : Heading) (s : List ℕ) where
   pub misfit-is : {b e b′ e′ : ℕ} {r x : Bool} → b ≡ b′ → e ≡ e′ → r ≡ entryFits h s b e → not r ≡ x → not (entryFits h s b′ e′) ≡ x
   misfit-is p q z y = (λ i. not (entryFits h s (sym p i) (sym q i))) ∙ ap not (sym z) ∙ y
 
-  -- ALL THREE CLAUSES; the start copies are the first k
-  pub words-are : (bs es : List ℕ) (k : ℕ) (p q r : Bool) → copiesOf h s 1 ≡ from 1 k
-      → badEntries h s bs es ≡ p → eqb (lastOf es) 0 ≡ q → any (λ i. not (member i es)) (from 1 k) ≡ r
-      → (p || (q || r)) ≡ badEntryWords h s bs es
-  unfolding badEntryWords noLastEntry unnamedStart
-  words-are bs es k p q r c x y z =
-      let u : unnamedStart h s bs es ≡ r = ap (any (λ i. not (member i es))) c ∙ z in
-      λ i. sym x i || (sym y i || sym u i)
+-- ALL THREE CLAUSES, by their tests
+module _ (h : Heading) (s bs es : List ℕ) {p : Bool} (P : p ≡ badEntries h s bs es) where
+  words-are : (a b c : Bool) → p ≡ a → eqb (lastOf es) 0 ≡ b → unnamedStart h s bs es ≡ c → (a || (b || c)) ≡ badEntryWords h s bs es
+  unfolding badEntryWords noLastEntry
+  words-are a b c x y z = λ i. (sym x ∙ P) i || (sym y i || sym z i)
+
+  pub entries-bad : p ≡ true → true ≡ badEntryWords h s bs es
+  entries-bad e = words-are true _ _ e refl refl
+
+  module _ (e : p ≡ false) where
+    pub last-bad : eqb (lastOf es) 0 ≡ true → true ≡ badEntryWords h s bs es
+    last-bad f = words-are false true _ e f refl
+
+    -- the start copies are the first k
+    pub starts-left : {r : Bool} (k : ℕ) → eqb (lastOf es) 0 ≡ false → copiesOf h s 1 ≡ from 1 k → r ≡ any (λ i. not (member i es)) (from 1 k)
+        → r ≡ badEntryWords h s bs es
+    unfolding unnamedStart
+    starts-left k f C R = words-are false false _ e f (ap (any (λ i. not (member i es))) C ∙ sym R)

@@ -2,12 +2,11 @@
 -- Rests on base Search, formats Rule11.
 use borrow.Author.Needs.{needs}
 use mathlib.Core.Path.{_≡_, refl, sym, ap, _∙_}
-use mathlib.Core.Bool.{Bool, _&&_, not}
+use mathlib.Core.Bool.{Bool, true, false, _&&_, not}
 use mathlib.Core.List.{List}
-use Prim.Native.Nat.{ℕ, suc, _+_, _-_}
+use Prim.Native.Nat.{ℕ, suc, _+_, _-_, _≤_}
 use native.Mathlib.Omega.{arith}
 use lib.Dec.{eqb}
-use Rattle.base.specs.Lists.{any, from}
 use Rattle.base.specs.Checks.{outside}
 use Rattle.base.proofs.Search.{Search, begin, found, onward, none}
 use Rattle.formats.specs.BoundedSheet.{Heading, headingOf, targetAt}
@@ -19,14 +18,24 @@ use Rattle.bounded_check.proofs.bad_targets.Tie as tie
 abbrev stray : ℕ → ℕ → ℕ → Bool
 stray k n t = not (eqb t 0) && outside (suc k) n t
 
-targets-are : (h : Heading) (s : List ℕ) {k : ℕ} → k ≡ startCount h s
-    → badTargetWords h s ≡ any (λ e. stray k (h .copies) (targetAt h s e)) (from 1 (h .edges))
-unfolding badTargetWords
-targets-are h s q = rw q
+-- THE LOOP is at the edge e, with the target t
+module _ (h : Heading) (s : List ℕ) (k : ℕ) where
+  abbrev Straying : ℕ → Type 0
+  Straying e = Search (badTargetWords h s) (λ e. stray k (h .copies) (targetAt h s e)) (h .edges) e
+
+  starts : k ≡ startCount h s → Straying 1
+  unfolding badTargetWords
+  starts q = begin refl (rw q)
+
+  module _ {e t : ℕ} {r : Bool} (S : Straying e) (l : e ≤ h .edges) (p : t ≡ targetAt h s e) (q : r ≡ stray k (h .copies) t) where
+    strays : r ≡ true → true ≡ badTargetWords h s
+    strays z = found S l (ap (stray k (h .copies)) (sym p) ∙ sym q ∙ z)
+
+    stays : r ≡ false → Straying (e + 1)
+    stays z = onward S l (ap (stray k (h .copies)) (sym p) ∙ sym q ∙ z)
 
 abbrev Inv-loop : tie.InvT-loop
-Inv-loop s at c f b k base e₀ e =
-    let h = headingOf at c f b in Search (badTargetWords h s) (λ e. stray k c (targetAt h s e)) f e
+Inv-loop s at c f b k base e₀ e = Straying (headingOf at c f b) s k e
 
 abbrev μ-loop : tie.MeasureT-loop
 μ-loop s at c f b k base e₀ e = f + 1 - e
@@ -38,7 +47,7 @@ add-base : tie.Need-add-base Inv-loop μ-loop
 add-base c = omega (arith, c .before .pre .0 .size)
 
 loop-holds : tie.Need-loop-holds Inv-loop μ-loop
-loop-holds c = begin refl (targets-are _ _ (c .before .pre .1 .0))
+loop-holds c = starts _ _ _ (c .before .pre .1 .0)
 
 field-requires : tie.Need-field-requires Inv-loop μ-loop
 field-requires c κs =
@@ -48,18 +57,12 @@ field-requires c κs =
 returns : tie.Need-returns Inv-loop μ-loop
 returns c =
     let t = c .before .before .before in
-    let a = t .before .before .before .args in
-    found (t .before .loop .inv) (t .loop-test .taken)
-    (ap (stray (a .k) (a .c)) (sym (c .before .before .field .ensures .0)) ∙ sym (c .before .is-stray .ensures)
-    ∙ c .if1 .taken)
+    strays _ _ _ (t .before .loop .inv) (t .loop-test .taken) (c .before .before .field .ensures .0) (c .before .is-stray .ensures) (c .if1 .taken)
 
 loop-again : tie.Need-loop-again Inv-loop μ-loop
 loop-again c =
     let t = c .before .before .before in
-    let a = t .before .before .before .args in
-    onward (t .before .loop .inv) (t .loop-test .taken)
-    (ap (stray (a .k) (a .c)) (sym (c .before .before .field .ensures .0)) ∙ sym (c .before .is-stray .ensures)
-    ∙ c .if1 .left)
+    stays _ _ _ (t .before .loop .inv) (t .loop-test .taken) (c .before .before .field .ensures .0) (c .before .is-stray .ensures) (c .if1 .left)
 
 returns-2 : tie.Need-returns-2 Inv-loop μ-loop
 returns-2 c = none (c .before .loop .inv) (c .loop-test .left)

@@ -22,26 +22,25 @@ field-requires : tie.Need-field-requires Inv-loop μ-loop
 field-requires c κs = (omega arith, omega arith, omega (arith, c .before .before .before .pre .0 .size))
 
 returns : tie.Need-returns Inv-loop μ-loop
-returns c = (other-block _ _ (c .before .before .before .before .before .pre .1) (c .before .before .before .loop .inv .0) (c .before .field .ensures .0) (c .if1 .taken), c .before .before .before .loop .inv .1)
+returns c =
+    let l = c .before .before .before in
+    let i = l .loop .inv in
+    (other-block _ _ (l .before .before .pre .1) (i .0) (c .before .field .ensures .0) (c .if1 .taken), i .1)
 
 loop-again : tie.Need-loop-again Inv-loop μ-loop
 loop-again c =
-    (one-more _ _ (c .before .before .before .before .before .pre .1) (c .before .before .before .loop .inv .0) (c .before .field .ensures .0) (c .before .before .loop-test .taken) (c .if1 .left), omega arith)
+    let t = c .before .before in
+    let l = t .before in (
+      one-more _ _ (l .before .before .pre .1) (l .loop .inv .0) (c .before .field .ensures .0) (t .loop-test .taken) (c .if1 .left),
+      omega arith,
+    )
 
 returns-2 : tie.Need-returns-2 Inv-loop μ-loop
-returns-2 c = (no-more _ _ (c .before .before .before .pre .1) (c .before .loop .inv .0) (c .loop-test .left), c .before .loop .inv .1)
+returns-2 c =
+    let l = c .before in
+    (no-more _ _ (l .before .before .pre .1) (l .loop .inv .0) (c .loop-test .left), l .loop .inv .1)
 
 pub count-starts-spec : {M : Type 1} → statement M
 count-starts-spec =
     tie.close
-    (tie.spec
-    Inv-loop
-    μ-loop
-    loop-holds
-    (λ c. search needs)
-    field-requires
-    returns
-    (λ c. search needs)
-    (λ c. search needs)
-    loop-again
-    returns-2)
+    (tie.spec Inv-loop μ-loop loop-holds (λ c. search needs) field-requires returns (λ c. search needs) (λ c. search needs) loop-again returns-2)

@@ -12,11 +12,5 @@ returns c = rw (eq-eqb _ 0 (c .if1 .taken))
 returns-2 : tie.Need-returns-2
 returns-2 c = rw (ne-eqb _ 0 (c .before .if1 .left)) (rw add-one at (c .is-outside .ensures))
 
-add-is-outside : tie.Need-add-is-outside
-add-is-outside c = search needs
-
-is-outside-requires : tie.Need-is-outside-requires
-is-outside-requires c κs = search needs
-
 pub is-stray-spec : {M : Type 1} → statement M
-is-stray-spec = tie.close (tie.spec returns add-is-outside is-outside-requires returns-2)
+is-stray-spec = tie.close (tie.spec returns (λ c. search needs) (λ c κs. search needs) returns-2)

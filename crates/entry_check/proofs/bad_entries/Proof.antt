@@ -44,15 +44,19 @@ returns : tie.Need-returns Inv-loop μ-loop
 returns c =
     let y = c .before .before in
     let t = y .before .before in
+    let a = t .before .before .before .before .before .args in
     found (t .before .loop .inv) (t .loop-test .taken)
-    (misfit-is _ _ (y .before .word-at .ensures .0) (y .word-at2 .ensures .0) (c .before .entry-fits .ensures) (c .if1 .taken))
+    (misfit-is (headingOf (a .at) (a .c) (a .f) (a .b)) _ (y .before .word-at .ensures .0) (y .word-at2 .ensures .0)
+    (c .before .entry-fits .ensures) (c .if1 .taken))
 
 loop-again : tie.Need-loop-again Inv-loop μ-loop
 loop-again c =
     let y = c .before .before in
     let t = y .before .before in
+    let a = t .before .before .before .before .before .args in
     onward (t .before .loop .inv) (t .loop-test .taken)
-    (misfit-is _ _ (y .before .word-at .ensures .0) (y .word-at2 .ensures .0) (c .before .entry-fits .ensures) (c .if1 .left))
+    (misfit-is (headingOf (a .at) (a .c) (a .f) (a .b)) _ (y .before .word-at .ensures .0) (y .word-at2 .ensures .0)
+    (c .before .entry-fits .ensures) (c .if1 .left))
 
 returns-2 : tie.Need-returns-2 Inv-loop μ-loop
 returns-2 c = none (c .before .loop .inv) (c .loop-test .left)
