@@ -107,14 +107,6 @@ rising-chosen (x ∷ cs) h (suc zero) (suc (suc j)) c d l p q =
 rising-chosen (x ∷ cs) h (suc (suc i)) (suc zero) c d l p q = absurd (omega arith)
 rising-chosen (x ∷ cs) h (suc (suc i)) (suc (suc j)) c d l p q = rising-chosen cs (h .1) (suc i) (suc j) c d (omega arith) p q
 
--- a copy that none stands before is the first
-pub rising-first : (cs : List Copy) → Rising cs → (c : Copy) → List·Memᴰ c cs → ((d : Copy) → List·Memᴰ d cs → before d c ≡ true → ⊥)
-    → (rest : List Copy) × (cs ≡ c ∷ rest)
-unfolding Rising
-rising-first [] h c m n = absurd (List·Memᴰ·not-nil m)
-rising-first (d ∷ ds) h c m n =
-    ⊎-elim (λ e. (ds, ap (λ (x : Copy). x ∷ ds) (sym e))) (λ k. absurd (n d (List·Memᴰ·head refl) (h .0 c k))) (List·Memᴰ·cases-cons m)
-
 pub not-before : (c : Copy) → before c c ≡ true → ⊥
 not-before c p = ⊎-elim (λ l. omega arith) (λ q. omega (arith, q .1)) (before-cases c c p)
 

@@ -1,15 +1,16 @@
 -- Lists of numbers: the last one, those that rise, and the k-th.
--- Rests on specs Lists, Truth.
+-- Rests on specs Lists, Truth, Lists.
 use mathlib.Core.Path.{_≡_, refl, sym, ap, _∙_}
 use mathlib.Core.Logic.{⊎-elim}
-use mathlib.Core.Bool.{true}
+use mathlib.Core.Bool.{Bool, true}
 use mathlib.Core.List.{List, [], _∷_, map, List·Memᴰ, List·Memᴰ·head, List·Memᴰ·tail, List·Memᴰ·not-nil, List·Memᴰ·cases-cons, List·Memᴰ·eq-of-singleton}
 use Prim.Native.Nat.{ℕ, zero, suc, _-_, _≤_}
 use native.Mathlib.Omega.{arith}
 use borrow.Author.Tests.{ltb-true}
 use lib.ListN.{length, getD}
-use Rattle.base.specs.Lists.{rising, lastOf, nth}
-use Rattle.base.proofs.Truth.{and-e}
+use Rattle.base.specs.Lists.{any, from, rising, lastOf, nth}
+use Rattle.base.proofs.Truth.{same-test, and-e, any-i, any-e}
+use Rattle.base.proofs.Lists.{from-i, from-e}
 
 -- the last of a list that is not empty is in it
 pub last-in : (xs : List ℕ) → 1 ≤ length xs → List·Memᴰ (lastOf xs) xs
@@ -77,3 +78,28 @@ pub one-member : (xs : List ℕ) (x : ℕ) → length xs ≡ 1 → List·Memᴰ 
 one-member [] x e m = absurd (omega arith)
 one-member (y ∷ []) x e m = ap (λ (z : ℕ). z ∷ []) (sym (List·Memᴰ·eq-of-singleton m))
 one-member (y ∷ z ∷ ys) x e m = absurd (omega arith)
+
+-- the last is the one at the place of the length
+pub last-nth : (xs : List ℕ) → lastOf xs ≡ nth xs (length xs)
+unfolding lastOf
+last-nth [] = refl
+last-nth (x ∷ []) = refl
+last-nth (x ∷ y ∷ ys) =
+    let i : suc (suc (length ys)) - 1 ≡ suc (suc (length ys) - 1) = omega arith in
+    rw i (last-nth (y ∷ ys))
+
+-- A SEARCH IN A LIST, as one among its places
+pub any-place : (f : ℕ → Bool) (xs : List ℕ) → any f xs ≡ any (λ k. f (nth xs k)) (from 1 (length xs))
+any-place f xs = same-test _ _ there back
+  where
+    there : any f xs ≡ true → any (λ k. f (nth xs k)) (from 1 (length xs)) ≡ true
+    there p =
+        let m = any-e f xs p in
+        let k = nth-of (m .0) (m .1) in
+        any-i (λ k. f (nth xs k)) (from-i (length xs) 1 (k .0) (k .1) (omega (arith, k .2))) (ap f (k .3) ∙ m .2)
+
+    back : any (λ k. f (nth xs k)) (from 1 (length xs)) ≡ true → any f xs ≡ true
+    back p =
+        let m = any-e (λ k. f (nth xs k)) (from 1 (length xs)) p in
+        let l = from-e (length xs) 1 (m .0) (m .1) in
+        any-i f (nth-in xs (m .0) (l .0) (omega arith)) (m .2)

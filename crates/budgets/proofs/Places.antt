@@ -10,28 +10,11 @@ use lib.Dec.{ltb}
 use lib.ListN.{length, getD}
 use Rattle.base.specs.Lists.{any, from, rising, nth}
 use Rattle.base.specs.Checks.{outside}
-use Rattle.base.proofs.Truth.{same-test, or-l, any-i, any-e}
-use Rattle.base.proofs.Lists.{from-i, from-e}
-use Rattle.base.proofs.Numbers.{nth-in, nth-of}
+use Rattle.base.proofs.Truth.{or-l}
+use Rattle.base.proofs.Numbers.{any-place}
 use Rattle.formats.specs.Limits.{mostBudget, leastBudgets, mostBudgets}
 use Rattle.formats.specs.Versions.{budgetsAt, budgetCount, budgetsIn, badBudget, badBudgets}
 use Rattle.formats.proofs.Budgets.{budgets-there}
-
--- a number of a list passes a test: one at some place does
-any-place : (f : ℕ → Bool) (xs : List ℕ) → any f xs ≡ any (λ k. f (nth xs k)) (from 1 (length xs))
-any-place f xs = same-test _ _ there back
-  where
-    there : any f xs ≡ true → any (λ k. f (nth xs k)) (from 1 (length xs)) ≡ true
-    there p =
-        let m = any-e f xs p in
-        let k = nth-of (m .0) (m .1) in
-        any-i (λ k. f (nth xs k)) (from-i (length xs) 1 (k .0) (k .1) (omega (arith, k .2))) (ap f (k .3) ∙ m .2)
-
-    back : any (λ k. f (nth xs k)) (from 1 (length xs)) ≡ true → any f xs ≡ true
-    back p =
-        let m = any-e (λ k. f (nth xs k)) (from 1 (length xs)) p in
-        let l = from-e (length xs) 1 (m .0) (m .1) in
-        any-i f (nth-in xs (m .0) (l .0) (omega arith)) (m .2)
 
 -- the number at a place is above the limit; it is not below the next
 abbrev pub above : List ℕ → ℕ → Bool

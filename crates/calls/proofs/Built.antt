@@ -14,7 +14,7 @@ use Rattle.base.specs.Lists.{chosen, nth}
 use Rattle.base.specs.Copy.{Copy}
 use Rattle.base.proofs.Lists.{chosen-mem, chosen-le, chosen-some}
 use Rattle.base.proofs.Numbers.{member-some, one-member}
-use Rattle.base.proofs.Copies.{before-cases, rising-chosen, FirstOf, number-chosen}
+use Rattle.base.proofs.Copies.{before-cases, rising-chosen, number-chosen}
 use Rattle.theory.specs.Completions.{lowOf}
 use Rattle.theory.specs.Copies.{targets, copyFor, targetNumber}
 use Rattle.theory.specs.Setting.{Setting, Entry, copies, startCopy, LaysOut}
@@ -31,7 +31,7 @@ use Rattle.formats.proofs.Budgets.{budgets-there, largest-named}
 use Rattle.formats.proofs.Headings.{Proper, HeaderReads, header-reads}
 use Rattle.formats.proofs.Accepted.{Accepted, accepted}
 use Rattle.formats.proofs.Reading.{Laid, laid, counted}
-use Rattle.formats.proofs.RuleKept.{Once, RowsFit, EntriesFit, Fits, once, fits-rule}
+use Rattle.formats.proofs.RuleKept.{RowsFit, EntriesFit, Fits, once, fits-rule}
 use Rattle.formats.proofs.WordsFit.{words-fit}
 use Rattle.calls.specs.SheetGraph.{task, graph, rowOf, rowsOf, entryFor, prefaceFor, boundedSheet, readBounded}
 use Rattle.calls.specs.Build.{copyCount, edgeTotal}

@@ -3,7 +3,7 @@
 use mathlib.Core.Path.{_≡_, refl, sym, ap, subst, _∙_}
 use mathlib.Core.Logic.{_≢_}
 use mathlib.Core.Bool.{false}
-use mathlib.Core.List.{List, [], _∷_, map, List·Memᴰ}
+use mathlib.Core.List.{List, map, List·Memᴰ}
 use mathlib.Core.Option.{Option, some, none, Option·map}
 use Prim.Native.Nat.{ℕ, suc, _+_, _-_, _<_}
 use native.Mathlib.Omega.{arith}
@@ -20,7 +20,7 @@ use Rattle.theory.proofs.Completions.{low-some, is-low, no-low, exit-cost, cove
 use Rattle.theory.proofs.Reach.{target-mem, edge-target, start-i, targets-in, reached-in, in-reached, copy-sound, entry-of, exit-only}
 use Rattle.formats.specs.Versions.{isSecond, budgetsIn, largestIn}
 use Rattle.formats.specs.BoundedSheet.{heading, boundedLength, copyAt, targetsAt}
-use Rattle.formats.proofs.Reading.{Laid, Reads, reads}
+use Rattle.formats.proofs.Reading.{Reads, reads}
 use Rattle.formats.proofs.RuleRead.{clauses}
 use Rattle.calls.specs.SheetGraph.{task, graph, rowOf, rowsOf, entryFor, sheetCopies, boundedSheet, readBounded}
 use Rattle.calls.specs.Construction.{IsBudget, entry, IsPlace, Demand2}

@@ -1,10 +1,10 @@
 -- DEMAND 3 for walks that are held in another form: where the form is faithful, its calls keep the demand as those by value do.
 -- Rests on theory Runs, Demand.
-use mathlib.Core.Path.{_≡_, sym, ap, subst, _∙_}
+use mathlib.Core.Path.{_≡_, sym, ap, _∙_}
 use mathlib.Core.List.{List, map}
 use Prim.Native.Nat.{ℕ}
 use native.Mathlib.Omega.{arith}
-use Rattle.theory.specs.Machines.{Reply, zeros}
+use Rattle.theory.specs.Machines.{zeros}
 use Rattle.theory.specs.Walks.{Walk, starting}
 use Rattle.theory.proofs.Runs.{SameStep, answers-as, final-as, unchanged-form}
 use Rattle.calls.specs.Moves.{Budgeted, startingWalk, Move, guardedReply, boundedMove}

@@ -9,7 +9,7 @@ use borrow.Author.Tests.{ltb-true, ltb-false}
 use lib.Dec.{ltb}
 use lib.ListN.{length, getD}
 use Rattle.base.specs.Cells.{cellOf, cellCount}
-use Rattle.base.specs.Copy.{Copy, isIn}
+use Rattle.base.specs.Copy.{isIn}
 use Rattle.base.specs.Lists.{optionOf, isNone, lastOf, nth}
 use Rattle.base.proofs.Truth.{not-both}
 use Rattle.base.proofs.Numbers.{nth-in, nth-of}

@@ -16,7 +16,7 @@ use Rattle.base.proofs.Orders.{Numbered, unrefused, inside-of, not-outside}
 use Rattle.base.proofs.Pigeonhole.{distinct-e, pigeonhole}
 use Rattle.formats.specs.Words.{field, follow, Inside, unsound}
 use Rattle.formats.specs.Limits.{leastWords, leastBlocks, mostBlocks, leastEdges, mostEdges, mostBudget}
-use Rattle.formats.specs.Versions.{budgetsAt, budgetCount, budgetsIn, largestIn, badBudget, badBudgets, Claimed}
+use Rattle.formats.specs.Versions.{budgetsAt, budgetCount, budgetsIn, largestIn, Claimed}
 use Rattle.formats.specs.GraphSheet.{Header, header, sheetLength, costWord, firstWord, targetWord, nextWord, chain, met, successors}
 use Rattle.formats.specs.GraphSheet.{short, badCounts, badLength, costFits, badCosts, badTargets, badChains, exitChain}
 use Rattle.formats.specs.GraphSheet.{sheetOrder, sheetRefusal, successorCount, Formed, Sound}

@@ -1,15 +1,15 @@
 -- The budgets of a header: where they stand, and what 4 and 41 leave of them.
 -- Rests on base Truth, Orders and Numbers, specs Versions.
-use mathlib.Core.Path.{_≡_, refl, sym, ap, subst, _∙_}
+use mathlib.Core.Path.{_≡_, refl}
 use mathlib.Core.Bool.{Bool, true, false}
 use mathlib.Core.List.{List, List·Memᴰ}
 use Prim.Native.Nat.{ℕ, _+_, _*_, _≤_}
 use native.Mathlib.Omega.{arith}
 use borrow.Author.Tests.{ltb-false, not-false}
 use lib.Dec.{ltb}
-use lib.ListN.{length, take, drop, length-drop}
+use lib.ListN.{length, drop, length-drop}
 use lib.Seq.{length-take-le}
-use Rattle.base.specs.Lists.{any, rising, lastOf}
+use Rattle.base.specs.Lists.{rising, lastOf}
 use Rattle.base.specs.Checks.{outside}
 use Rattle.base.proofs.Truth.{or-false, any-false}
 use Rattle.base.proofs.Orders.{inside-of}
@@ -18,7 +18,7 @@ use Rattle.formats.specs.Limits.{mostBudget, leastBudgets, mostBudgets}
 use Rattle.formats.specs.Words.{word}
 use Rattle.formats.specs.Versions.{isSecond, budgetsAt, budgetCount, budgetsIn, badBudget, badBudgets, Claimed}
 use Rattle.formats.specs.GraphSheet.{header}
-use Rattle.formats.specs.BoundedSheet.{heading, entriesIn}
+use Rattle.formats.specs.BoundedSheet.{heading}
 
 -- a graph sheet's records stand behind its budgets
 pub graph-records : (w : List ℕ) → header w .records ≡ budgetsAt w + budgetCount w

@@ -1,10 +1,10 @@
 -- A sheet of the first version keeps the rule of document 01: its entries keep their clauses exactly where it has one copy of block 1, and
 -- its targets are then 0 or 2 to C. Rests on base Truth, Lists and Numbers, Headings, RuleRead.
-use mathlib.Core.Path.{_≡_, refl, sym, ap, subst, _∙_}
+use mathlib.Core.Path.{_≡_, refl, sym, ap, subst}
 use mathlib.Core.Logic.{_↔_}
 use mathlib.Core.Bool.{true, false, _&&_, not}
 use mathlib.Core.List.{List, [], _∷_, List·Memᴰ, List·Memᴰ·head, List·Memᴰ·eq-of-singleton}
-use Prim.Native.Nat.{ℕ, suc, _≤_}
+use Prim.Native.Nat.{ℕ, _≤_}
 use native.Mathlib.Omega.{arith}
 use borrow.Author.Tests.{eq-eqb, eqb-true, ltb-false, le-ltb, not-false}
 use lib.Dec.{eqb, ltb}
@@ -15,11 +15,11 @@ use Rattle.base.proofs.Truth.{and-i, or-r, any-false, none-any}
 use Rattle.base.proofs.Lists.{member-i, from-i, from-e}
 use Rattle.base.proofs.Numbers.{one-last}
 use Rattle.base.proofs.Orders.{not-outside}
-use Rattle.formats.specs.Versions.{isSecond, budgetsIn, largestIn}
-use Rattle.formats.specs.BoundedSheet.{heading, entriesIn, blockAt, lowAt, targetAt}
+use Rattle.formats.specs.Versions.{isSecond, budgetsIn}
+use Rattle.formats.specs.BoundedSheet.{heading, entriesIn, lowAt, targetAt}
 use Rattle.formats.specs.Rule11.{copiesOf, notOneOf, startCount, badLows, badTargetWords, entryFits, badEntries, noLastEntry, unnamedStart}
 use Rattle.formats.specs.Rule11.{Ruled, Entered}
-use Rattle.formats.proofs.Headings.{Proper, read-proper, largest-is}
+use Rattle.formats.proofs.Headings.{read-proper, largest-is}
 use Rattle.formats.proofs.RuleRead.{starts-front, start-out, entry-names, start-named}
 
 module _ (s : List ℕ) (R : Ruled (heading s) s) (long : 3 ≤ length s) (first : isSecond s ≡ false) where

@@ -1,22 +1,14 @@
 -- A part of a row, n words from a on, of which less may be there: its k-th word and its last.
--- Rests on base Lists, formats Words.
+-- Rests on base Numbers, formats Words.
 use mathlib.Core.Path.{_≡_, refl, ap, _∙_}
-use mathlib.Core.List.{List, [], _∷_}
-use Prim.Native.Nat.{ℕ, suc, _+_, _-_, _≤_, _<_}
+use mathlib.Core.List.{List}
+use Prim.Native.Nat.{ℕ, _+_, _-_, _≤_, _<_}
 use native.Mathlib.Omega.{arith}
 use lib.ListN.{length, take, drop, length-drop, drop-of-length-le}
 use lib.Seq.{getD-take, getD-drop, length-take-le, take-all, take-nil}
 use Rattle.base.specs.Lists.{lastOf, nth}
+use Rattle.base.proofs.Numbers.{last-nth}
 use Rattle.formats.specs.Words.{word}
-
--- the last of a list by its place
-last-nth : (xs : List ℕ) → lastOf xs ≡ nth xs (length xs)
-unfolding lastOf
-last-nth [] = refl
-last-nth (x ∷ []) = refl
-last-nth (x ∷ y ∷ ys) =
-    let i : suc (suc (length ys)) - 1 ≡ suc (suc (length ys) - 1) = omega arith in
-    rw i (last-nth (y ∷ ys))
 
 module _ (w : List ℕ) (a n : ℕ) where
   -- the k-th stands in the row

@@ -2,14 +2,14 @@
 -- Rests on formats Accepted, Front, Ready.
 -- what the call is given, seen from where the sheet is weighed
 use borrow.Author.Needs.{needs}
-use mathlib.Core.Path.{_≡_, sym, ap, ap₂, _∙_}
+use mathlib.Core.Path.{_≡_, sym, ap₂, _∙_}
 use mathlib.Core.Bool.{Bool}
 use mathlib.Core.List.{List}
 use Prim.Native.Nat.{ℕ, _+_, _-_}
 use native.Mathlib.Omega.{arith}
 use lib.ListN.{length, take, drop}
 use Rattle.theory.specs.Tasks.{Task}
-use Rattle.formats.specs.Versions.{budgetsAt, budgetCount, budgetsIn}
+use Rattle.formats.specs.Versions.{budgetsIn}
 use Rattle.formats.proofs.Accepted.{accepted}
 use Rattle.output.specs.Answer.{answerAt, outputAt}
 use Rattle.build_rows.specs.Within.{Passes}

@@ -1,8 +1,8 @@
 -- `descend::reach` marks exactly the copies of the task, from the start copy of each budget, or meets too many edges.
 -- Rests on Outset.
 use borrow.Author.Needs.{needs}
-use mathlib.Core.Path.{sym, ap, _∙_}
-use Prim.Native.Nat.{ℕ, _-_}
+use mathlib.Core.Path.{sym, _∙_}
+use Prim.Native.Nat.{_-_}
 use native.Mathlib.Omega.{arith}
 use lib.ListN.{length}
 use Rattle.descend.proofs.Outset.{Outset, outset, given, start-cell, start-serves, only-on, outset-on, outset-end, outset-stops}

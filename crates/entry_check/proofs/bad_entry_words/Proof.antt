@@ -1,7 +1,6 @@
 -- The three clauses on the entries, one after the other.
 -- Rests on Parts and Places.
 use borrow.Author.Needs.{needs}
-use native.Mathlib.Omega.{arith}
 use Rattle.formats.specs.BoundedSheet.{headingOf}
 use Rattle.entry_check.proofs.Parts.{entries-bad, last-bad, starts-left}
 use Rattle.entry_check.proofs.Places.{last-zero, last-some}
@@ -21,7 +20,7 @@ returns-2 c =
     let g = z .before .before .before .before in
     let a = g .args in
     last-bad (headingOf (a .at) (a .c) (a .f) (a .b)) _ _ _ (z .bad-entries .ensures) (y .if1 .left)
-    (last-zero _ (omega (arith, g .pre .1 .1)) (c .before .word-at .ensures .0) (c .if2 .taken))
+    (last-zero _ (c .before .word-at .ensures .0) (c .if2 .taken))
 
 returns-3 : tie.Need-returns-3
 returns-3 c =
@@ -30,7 +29,7 @@ returns-3 c =
     let g = z .before .before .before .before in
     let a = g .args in
     starts-left (headingOf (a .at) (a .c) (a .f) (a .b)) _ _ _ (z .bad-entries .ensures) (y .if1 .left) (a .k)
-    (last-some _ (omega (arith, g .pre .1 .1)) (c .before .before .word-at .ensures .0) (c .before .if2 .left)) (g .pre .1 .0 .0)
+    (last-some _ (c .before .before .word-at .ensures .0) (c .before .if2 .left)) (g .pre .1 .0 .0)
     (c .is-one-unnamed .ensures)
 
 pub bad-entry-words-spec : {M : Type 1} → statement M

@@ -1,8 +1,7 @@
 -- `heading_words::put_budgets`, word by word.
 -- Rests on put_words Put.
 use borrow.Author.Needs.{needs}
-use mathlib.Core.Path.{refl}
-use Prim.Native.Nat.{ℕ, _-_}
+use Prim.Native.Nat.{_-_}
 use native.Mathlib.Omega.{arith}
 use lib.ListN.{length}
 use Rattle.put_words.proofs.Put.{Putting, putting, putting-length, putting-on, put-all}

@@ -2,7 +2,7 @@
 -- Rests on put_words Put, Entries.
 use borrow.Author.Needs.{needs}
 use native.Mathlib.Omega.{arith}
-use Prim.Native.Nat.{ℕ, _-_}
+use Prim.Native.Nat.{_-_}
 use lib.ListN.{length}
 use Rattle.graph_row.specs.GraphRow.{blocksIn, graphIn}
 use Rattle.put_words.proofs.Put.{Putting, putting, putting-length, putting-on, put-all}

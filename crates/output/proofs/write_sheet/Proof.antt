@@ -1,11 +1,10 @@
 -- The header, then the records.
 -- Rests on formats Budgets, put_words Put, heading_words Entries, Answers, Served.
 use borrow.Author.Needs.{needs}
-use mathlib.Core.Path.{_≡_, sym, ap, ap₂, _∙_}
+use mathlib.Core.Path.{ap, ap₂, _∙_}
 use mathlib.Core.List.{List}
-use Prim.Native.Nat.{ℕ, _≤_}
+use Prim.Native.Nat.{ℕ}
 use native.Mathlib.Omega.{arith}
-use lib.ListN.{length}
 use Rattle.base.specs.Copy.{Copy}
 use Rattle.formats.specs.BoundedSheet.{headingWords, recordWords}
 use Rattle.calls.specs.SheetGraph.{rowsOf}

@@ -1,8 +1,7 @@
 -- The sheet is checked, then the area's length.
 -- Rests on formats Accepted, Answers.
 use borrow.Author.Needs.{needs}
-use mathlib.Core.Path.{_≡_, sym, ap, _∙_}
-use Prim.Native.Nat.{ℕ}
+use mathlib.Core.Path.{sym, ap, _∙_}
 use native.Mathlib.Omega.{arith}
 use Rattle.formats.specs.GraphSheet.{Header}
 use Rattle.formats.proofs.Accepted.{accepted}
