@@ -49,7 +49,7 @@ module _ (c : tie.After-read-heading) where
   start = c .before .before .before .before .before
 
   abbrev second : Heading
-  second = let h = c .read-heading .result in headingOf (h .records) (h .copies) (h .edges) (h .budget)
+  second = let h = c .read-heading .result in headingOf (h .records) (h .copies) (h .edges) (h .largest)
 
 -- SHORTER THAN A HEADER
 
