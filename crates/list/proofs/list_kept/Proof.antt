@@ -21,7 +21,7 @@ returns : tie.Need-returns
 returns c =
     let z = c .before .before .before .before .before .before .before in
     let e = c .before .before .list-file .ensures in
-    (e .1, λ xs H. wrote-as (e .0) (listed-kept H (z .pre .0 .0)))
+    (e .1, λ xs H. wrote-as (e .0) (listed-kept H (z .pre .0 .0) (λ i. omega (arith, c .before .before .before .before .before .before .shared-slice-known .given i))))
 
 pub list-kept-spec : {M : Type 1} → statement M
 list-kept-spec =
