@@ -12,6 +12,7 @@ use Rattle.base.proofs.Cells.{cell-inside}
 use Rattle.base.proofs.Numbers.{nth-in, nth-map}
 use Rattle.theory.specs.Completions.{lowOf}
 use Rattle.theory.specs.Copies.{copyFor, targetNumber}
+use Rattle.formats.specs.Limits.{mostBudgets}
 use Rattle.formats.specs.Versions.{Claimed}
 use Rattle.formats.specs.BoundedSheet.{headingWords}
 use Rattle.formats.proofs.Budgets.{largest-most}
@@ -76,6 +77,11 @@ pub heading-length : (v : Bool) (bs es : List ℕ) (c f : ℕ) → length es ≡
 unfolding headingWords headingSize
 heading-length true bs es c f e = omega (arith, length-append bs es)
 heading-length false bs es c f e = refl
+
+pub size-most : (v : Bool) (n : ℕ) → n ≤ mostBudgets → headingSize v n ≤ 12
+unfolding headingSize
+size-most true n l = omega arith
+size-most false n l = omega arith
 
 -- the second version's, in four parts
 pub put-second : (out : List ℕ) {o₁ o₂ o₃ o₄ : List ℕ} (bs es : List ℕ) (c f : ℕ)
