@@ -3,7 +3,7 @@
 use Prim.Native.Nat.{ℕ, _+_, _-_, _*_}
 use Rattle.formats.specs.Limits.{mostBlocks, mostEdges, wordLimit}
 
--- the longest header that words can say: 0, N, E, the number of budgets, which is a word, and so many budgets
+-- the longest header that words can say: "0, N, E, the number of budgets", which is a word, and so many budgets
 abbrev pub longestHeader : ℕ
 longestHeader = 4 + (wordLimit - 1)
 

@@ -8,7 +8,7 @@ ghost use Rattle.formats.specs.File.{wordsOf};
 use words::MOST_BLOCKS;
 use words::MOST_EDGES;
 
-// The longest header that words can say: four of them and, of the second version, as many budgets as the fourth counts.
+// The longest header that words can say: four of them, and as many budgets as the fourth can count.
 const LONGEST_HEADER: usize = 4 + 65535;
 
 // One word more than the longest graph sheet that 3 lets pass has: a longer file is answered by as many of its words (proofs LongFile).

@@ -6,7 +6,7 @@ use lib.ListN.{take}
 use Rattle.formats.specs.Limits.{mostBudgets, mostCopies, mostBoundedEdges}
 use Rattle.formats.specs.BoundedSheet.{heading, boundedLength}
 
--- the most words of a bounded sheet: a header of the second version, with a budget and an entry each, and the records
+-- the most words of a bounded sheet: four, the most budgets and an entry for each, and the records
 abbrev pub mostWords : ℕ
 mostWords = 4 + 2 * mostBudgets + 3 * mostCopies + 2 * mostBoundedEdges
 

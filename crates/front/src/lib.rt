@@ -10,7 +10,7 @@ use words::MOST_BOUNDED_EDGES;
 use words::MOST_BUDGETS;
 use words::MOST_COPIES;
 
-// The most words of a bounded sheet: a header of the second version, with a budget and an entry each, and the records.
+// The most words of a bounded sheet: four, the most budgets and an entry for each, and the records.
 pub const MOST_WORDS: usize = 4 + 2 * MOST_BUDGETS + 3 * MOST_COPIES + 2 * MOST_BOUNDED_EDGES;
 
 // The bounded sheet with which a row begins, as long as its header says.
