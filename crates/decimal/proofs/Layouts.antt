@@ -1,5 +1,5 @@
 -- The lines of a row of words: which they are, that they hold every word, and that none is empty.
--- Rests on formats GraphSheet and BoundedSheet, specs Writing, All.
+-- Rests on formats Versions, GraphSheet and BoundedSheet, specs Writing, All.
 use mathlib.Core.Path.{_≡_, refl, sym, ap, _∙_}
 use mathlib.Core.Bool.{Bool, true, false}
 use mathlib.Core.List.{List, [], _∷_, _++_}
@@ -10,6 +10,7 @@ use lib.Dec.{eqb}
 use lib.ListN.{length, replicate}
 use borrow.Author.Tests.{eqb-true, eq-eqb, ne-eqb}
 use Rattle.formats.specs.Limits.{leastWords}
+use Rattle.formats.specs.Versions.{isSecond}
 use Rattle.formats.specs.GraphSheet.{Header, header, sheetLength}
 use Rattle.formats.specs.BoundedSheet.{Heading, heading, boundedLength}
 use Rattle.decimal.specs.Writing.{records, layout, total}
@@ -44,14 +45,22 @@ records-filled h n k e p l = (
 module _ (ws : List ℕ) where
   -- WHICH LAYOUT
 
-  -- neither header is shorter than the least words of a sheet
+  -- no header, in either version, is shorter than the least words of a sheet
   pub header-least : leastWords ≤ header ws .records
   unfolding header
-  header-least = omega arith
+  header-least = go (isSecond ws) refl
+    where
+      go : (v : Bool) → isSecond ws ≡ v → leastWords ≤ header ws .records
+      go true e = rw (e, header) (omega arith)
+      go false e = rw (e, header) (omega arith)
 
   pub heading-least : leastWords ≤ heading ws .records
   unfolding heading
-  heading-least = omega arith
+  heading-least = go (isSecond ws) refl
+    where
+      go : (v : Bool) → isSecond ws ≡ v → leastWords ≤ heading ws .records
+      go true e = rw (e, heading) (omega arith)
+      go false e = rw (e, heading) (omega arith)
 
   module _ {g : Header} (p : g ≡ header ws) where
     pub layout-graph : length ws ≡ sheetLength g → layout ws ≡ records (g .records) (g .blocks) 2 (g .edges)

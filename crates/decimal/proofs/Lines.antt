@@ -5,7 +5,7 @@ use mathlib.Core.List.{List, [], _∷_, _++_, map, append-assoc}
 use Prim.Native.Nat.{ℕ, suc, _+_, _-_, _≤_, _<_}
 use native.Mathlib.Omega.{arith}
 use lib.ListN.{length, getD, take, drop, replicate, length-drop, length-append}
-use lib.Seq.{drop-cons, drop-drop, take-all}
+use lib.Seq.{drop-drop, take-all}
 use Rattle.base.proofs.Lists.{part-length as length-of-part}
 use Rattle.base.specs.Lists.{each}
 use Rattle.formats.specs.Listing.{decimal, line}
@@ -26,14 +26,6 @@ pub behind-length : (n : ℕ) (ws : List ℕ) → length (behind n ws) ≡ lengt
 behind-length n ws = ap length (behind-all n ws) ∙ length-drop n ws
 
 -- ONE LINE
-
--- the words from i on, each behind a space
-pub numbers-next : (ws : List ℕ) (i x : ℕ) → i < length ws → x ≡ getD ws i 0
-    → each spaced (drop i ws) ≡ spaced x ++ each spaced (drop (i + 1) ws)
-unfolding each
-numbers-next ws i x l e =
-    let p : i + 1 ≡ suc i = omega arith in
-    ap (each spaced) (drop-cons ws i 0 l) ∙ ap₂ (λ (y n : ℕ). spaced y ++ each spaced (drop n ws)) (sym e) (sym p)
 
 -- the first word, the others, the newline
 pub line-is : (ws : List ℕ) (x : ℕ) → 1 ≤ length ws → x ≡ getD ws 0 0

@@ -1,42 +1,20 @@
 // A row of words written as lines of decimal words.
-// Rests on formats and digits; the promises say the whole row, by digits Wrote and specs Writing.
+// Rests on words, headers, digits and heading_line; the promises say the whole row, by digits Wrote and specs Writing.
 ghost use mathlib.Core.Path.{_≡_};
 ghost use mathlib.Core.List.{map};
-ghost use Prim.Native.Nat.{_+_, _*_, _<_, _≤_};
+ghost use Prim.Native.Nat.{_+_, _*_, _≤_};
 ghost use lib.ListN.{length, replicate};
-ghost use Rattle.base.specs.Lists.{each};
 ghost use Rattle.formats.specs.Listing.{decimal, line};
-ghost use Rattle.formats.specs.Limits.{wordLimit};
 ghost use Rattle.digits.specs.Wrote.{Wrote};
-ghost use Rattle.digits.specs.Spaced.{spaced};
 ghost use Rattle.decimal.specs.Writing.{records, linesText, sheetText, total, sheetRoom};
 use digits::NEWLINE;
 use digits::put_byte;
 use digits::put_decimal;
-use digits::put_number;
 use headers::read_header;
 use headers::read_heading;
+use heading_line::put_numbers;
 use words::LEAST_WORDS;
-
-fn wide(x: u16) -> usize
-    ensures { λ r. ⌜ (r ≡ x) × (r < wordLimit) ⌝ }
-{
-    x as usize
-}
-
-// Writes words, each behind a space.
-fn put_numbers(ws: &[u16], text: &mut [u8], at: usize) -> usize
-    requires { ⌜ at + length (each spaced (now ws)) ≤ length (now text) ⌝ }
-    ensures { λ r. ⌜ Wrote (now (text .entry)) at (each spaced (now (ws .entry))) (now (text .exit)) r ⌝ }
-{
-    let mut p = at;
-    let mut i = 0;
-    while i < ws.len() {
-        p = put_number(text, p, wide(ws[i]));
-        i += 1;
-    }
-    p
-}
+use words::word_at;
 
 // Writes words in a line.
 fn put_line(ws: &[u16], text: &mut [u8], at: usize) -> usize
@@ -44,7 +22,7 @@ fn put_line(ws: &[u16], text: &mut [u8], at: usize) -> usize
     requires { ⌜ at + length (line (map decimal (now ws))) ≤ length (now text) ⌝ }
     ensures { λ r. ⌜ Wrote (now (text .entry)) at (line (map decimal (now (ws .entry)))) (now (text .exit)) r ⌝ }
 {
-    let x = put_decimal(text, at, wide(ws[0]));
+    let x = put_decimal(text, at, word_at(ws, 0));
     let y = put_numbers(&ws[1..], text, x);
     put_byte(text, y, NEWLINE)
 }

@@ -5,12 +5,14 @@ ghost use mathlib.Core.List.{_++_};
 ghost use Prim.Native.Nat.{_+_, _*_, _/_, _≤_};
 ghost use lib.ListN.{length, drop};
 ghost use Rattle.formats.specs.File.{wordsOf};
-use words::LEAST_WORDS;
 use words::MOST_BLOCKS;
 use words::MOST_EDGES;
 
-// One word more than the longest graph sheet has: a longer file is answered by as many of its words (proofs LongFile).
-pub const LONGER_SHEET: usize = LEAST_WORDS + 2 * MOST_BLOCKS + 2 * MOST_EDGES + 1;
+// The longest header that words can say: four of them, and as many budgets as the fourth can count.
+const LONGEST_HEADER: usize = 4 + 65535;
+
+// One word more than the longest graph sheet that 3 lets pass has: a longer file is answered by as many of its words (proofs LongFile).
+pub const LONGER_SHEET: usize = LONGEST_HEADER + 2 * MOST_BLOCKS + 2 * MOST_EDGES + 1;
 
 // The same in bytes.
 pub const LONGER_FILE: usize = 2 * LONGER_SHEET;

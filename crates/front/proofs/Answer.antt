@@ -1,28 +1,31 @@
 -- A build in rows that are long enough: its answer is never 21 or 22, and under 0 the output row begins with the bounded sheet.
--- Rests on base Orders, formats Reading and Accepted, calls Weigh, Built, Area and Demand, tables Places, specs Front.
+-- Rests on base Orders, formats Reading, Accepted and RuleRead, calls Weigh, Built, Area and Demand, tables Places, specs Front.
 use mathlib.Core.Path.{_≡_, refl, sym, ap, _∙_}
 use mathlib.Core.Bool.{Bool, true, false}
-use mathlib.Core.List.{List, [], _∷_, _++_}
-use Prim.Native.Nat.{ℕ, _≤_}
+use mathlib.Core.List.{List, [], _∷_, map}
+use Prim.Native.Nat.{ℕ, _+_, _*_, _≤_, _<_}
 use native.Mathlib.Omega.{arith}
 use native.Mathlib.Decide.{ℕ-discrete}
 use borrow.Author.Tests.{ltb-false, le-ltb}
-use lib.Dec.{ltb}
-use lib.ListN.{length, take, drop, length-append}
+use lib.Dec.{ltb, eqb}
+use lib.ListN.{length, take, drop, length-append, length-map, List·getD-append}
 use Rattle.base.specs.Checks.{Order, refused, lentAfter}
 use Rattle.base.proofs.Truth.{or-false}
 use Rattle.base.proofs.Orders.{pick, tested, none-left, append-stops, append-passes, over-stops, over-passes}
-use Rattle.formats.specs.Limits.{leastWords, mostCopies, mostBoundedEdges, mostCells}
-use Rattle.formats.specs.GraphSheet.{budgetIn, header, sheetOrder, sheetRefusal}
-use Rattle.formats.specs.BoundedSheet.{sheetWords, heading, boundedLength}
+use Rattle.formats.specs.Limits.{mostBudgets, mostCopies, mostBoundedEdges, mostCells}
+use Rattle.formats.specs.Words.{word}
+use Rattle.formats.specs.Versions.{isSecond, budgetsIn, largestIn}
+use Rattle.formats.specs.GraphSheet.{header, sheetOrder, sheetRefusal}
+use Rattle.formats.specs.BoundedSheet.{edgeCount, recordWords, headingWords, sheetWords, heading, boundedLength}
 use Rattle.formats.specs.Rule11.{boundedRefusal}
 use Rattle.formats.proofs.Accepted.{accepted, graph-numbered}
-use Rattle.formats.proofs.Reading.{laid, laid-length}
+use Rattle.formats.proofs.Reading.{records-length}
+use Rattle.formats.proofs.RuleRead.{read-ruled}
 use Rattle.theory.specs.Tasks.{copiesIn}
-use Rattle.calls.specs.SheetGraph.{task, rowsOf, boundedSheet}
+use Rattle.calls.specs.SheetGraph.{graph, task, rowOf, rowsOf, entryFor, boundedSheet}
 use Rattle.calls.specs.Area.{areaSize}
 use Rattle.calls.specs.Weigh.{Weighing, taskArea, nothingFits, areaOrder, fitOrder, frontOrder, weighOrder}
-use Rattle.calls.specs.Build.{Lent, tooMany, smallOutput, buildOrder, outputAfter, build}
+use Rattle.calls.specs.Build.{Lent, tooMany, copyCount, edgeTotal, tooLarge, smallOutput, buildOrder, outputAfter, build}
 use Rattle.calls.specs.Program.{listingOrder}
 use Rattle.calls.proofs.Weigh.{front-numbered, weigh-numbered, front-is as area-passes}
 use Rattle.calls.proofs.Built.{keeps-rule}
@@ -31,29 +34,43 @@ use Rattle.calls.proofs.Demand.{buildable}
 use Rattle.tables.proofs.Places.{few-cells, count-code}
 use Rattle.front.specs.Front.{mostWords, frontSheet}
 
--- THE LENGTH of a bounded sheet, by its header
-sheet-is : (w : List ℕ) → length (boundedSheet w) ≡ boundedLength (heading (boundedSheet w))
-unfolding boundedSheet
-sheet-is w = laid-length (laid (task w .largest) (rowsOf (task w .graph) (copiesIn (task w))))
-
--- the records stand behind as many words as any sheet has
-records-at : (w : List ℕ) → heading w .records ≡ leastWords
-unfolding heading
-records-at w = refl
+-- THE LENGTH of a header, in both versions
+heading-most : (v : Bool) (bs es : List ℕ) (c f : ℕ) → length es ≡ length bs → length bs ≤ mostBudgets
+    → length (headingWords v bs es c f) ≤ 4 + 2 * mostBudgets
+unfolding headingWords
+heading-most true bs es c f e l = omega (arith, length-append bs es)
+heading-most false bs es c f e l = omega arith
 
 -- few enough copies and edges fit the row
-words-fit : (w : List ℕ) → tooMany (heading (boundedSheet w)) ≡ false → length (boundedSheet w) ≤ mostWords
-unfolding tooMany
-words-fit w e =
-    let h = heading (boundedSheet w) in
-    let p = or-false (ltb mostCopies (h .copies)) (ltb mostBoundedEdges (h .edges)) e in
+words-fit : (w : List ℕ) → sheetRefusal w ≡ 0 → tooLarge (task w) ≡ false → length (boundedSheet w) ≤ mostWords
+unfolding tooMany boundedSheet sheetWords rowsOf
+words-fit w ok e =
+    let p = or-false (ltb mostCopies (copyCount (task w))) (ltb mostBoundedEdges (edgeTotal (task w))) e in
+    let bs = budgetsIn w in
+    let es = map (entryFor (task w)) bs in
+    let cs = copiesIn (task w) in
+    let rs = rowsOf (graph w) cs in
     omega (
       arith,
-      sheet-is w,
-      records-at (boundedSheet w),
-      ltb-false mostCopies (h .copies) (p .0),
-      ltb-false mostBoundedEdges (h .edges) (p .1),
+      length-append (headingWords (isSecond w) bs es (length rs) (edgeCount rs)) (recordWords rs),
+      heading-most (isSecond w) bs es (length rs) (edgeCount rs) (length-map bs (entryFor (task w))) (accepted w ok .claims .count .1),
+      records-length rs,
+      length-map cs (rowOf (graph w) cs),
+      ltb-false mostCopies (copyCount (task w)) (p .0),
+      ltb-false mostBoundedEdges (edgeTotal (task w)) (p .1),
     )
+
+-- THE LENGTH that a header says goes by its first four words
+same-length : (v w : List ℕ) → ((i : ℕ) → i < 4 → word v i ≡ word w i) → boundedLength (heading v) ≡ boundedLength (heading w)
+unfolding heading isSecond
+same-length v w same = go (isSecond w) refl
+  where
+    version : isSecond v ≡ isSecond w
+    version = ap (λ (x : ℕ). eqb x 0) (same 0 (omega arith))
+
+    go : (b : Bool) → isSecond w ≡ b → boundedLength (heading v) ≡ boundedLength (heading w)
+    go true e = rw (version ∙ e, e, heading) (omega (arith, same 1 (omega arith), same 2 (omega arith), same 3 (omega arith)))
+    go false e = rw (version ∙ e, e, heading) (omega (arith, same 0 (omega arith), same 1 (omega arith)))
 
 module _ (w area out : List ℕ) where
   abbrev lent : Lent
@@ -82,12 +99,12 @@ module _ (w area out : List ℕ) where
       area-fits =
           let A = accepted w ok in
           let n = header w .blocks in
-          let b = budgetIn w in
+          let b = largestIn w in
           omega (arith, few-cells n b (A .sound .form .blocks .1) (A .budget), count-code n b)
 
-      no-22 : tooMany (heading (boundedSheet w)) ≡ false → smallOutput w out ≡ false
+      no-22 : tooLarge (task w) ≡ false → smallOutput w out ≡ false
       unfolding smallOutput
-      no-22 e = le-ltb (length out) (length (boundedSheet w)) (omega (arith, words-fit w e))
+      no-22 e = le-ltb (length out) (length (boundedSheet w)) (omega (arith, words-fit w ok e))
 
       -- 9
       weighs : {b : Bool} → nothingFits (task w) ≡ b → refused weighOrder weighing ≡ pick b 9 0
@@ -96,23 +113,23 @@ module _ (w area out : List ℕ) where
           append-passes frontOrder fitOrder weighing front-numbered (area-passes w area ok area-fits)
           ∙ tested 9 _ [] weighing e (none-left weighing)
 
-      lists : {b c : Bool} → nothingFits (task w) ≡ b → tooMany (heading (boundedSheet w)) ≡ c → refused listingOrder w ≡ pick b 9 (pick c 10 0)
+      lists : {b c : Bool} → nothingFits (task w) ≡ b → tooLarge (task w) ≡ c → refused listingOrder w ≡ pick b 9 (pick c 10 0)
       unfolding sheetRefusal listingOrder
       lists e f = append-passes sheetOrder _ w graph-numbered ok ∙ tested 9 (λ w. nothingFits (task w)) _ w e (tested 10 _ _ w f (none-left w))
 
       -- 10 and 22
       abbrev behind : Order Lent
-      behind = (10, λ i. tooMany (heading (boundedSheet (i .sheet)))) ∷ (22, λ i. smallOutput (i .sheet) (i .output)) ∷ []
+      behind = (10, λ i. tooLarge (task (i .sheet))) ∷ (22, λ i. smallOutput (i .sheet) (i .output)) ∷ []
 
-      counts : (c : Bool) → tooMany (heading (boundedSheet w)) ≡ c → refused behind lent ≡ pick c 10 0
+      counts : (c : Bool) → tooLarge (task w) ≡ c → refused behind lent ≡ pick c 10 0
       counts true f = tested 10 _ _ lent f refl
       counts false f = tested 10 _ _ lent f (tested 22 _ _ lent (no-22 f) (none-left lent))
 
       by-counts : refused buildOrder lent ≡ refused listingOrder w
       unfolding buildOrder
-      by-counts = go (nothingFits (task w)) (tooMany (heading (boundedSheet w))) refl refl
+      by-counts = go (nothingFits (task w)) (tooLarge (task w)) refl refl
         where
-          go : (b c : Bool) → nothingFits (task w) ≡ b → tooMany (heading (boundedSheet w)) ≡ c → refused buildOrder lent ≡ refused listingOrder w
+          go : (b c : Bool) → nothingFits (task w) ≡ b → tooLarge (task w) ≡ c → refused buildOrder lent ≡ refused listingOrder w
           go true c e f =
               let nine = weighs e in
               over-stops weighing-of weighOrder behind lent (λ z. omega (arith, nine)) ∙ nine ∙ sym (lists e f)
@@ -132,10 +149,19 @@ module _ (w area out : List ℕ) where
     unfolding build
     filled-is = q ∙ ap (λ (a : ℕ). outputAfter w a out) e
 
-    -- it begins with the sheet
+    -- the sheet keeps rule 11
+    sheet-kept : boundedRefusal (boundedSheet w) ≡ 0
+    sheet-kept = keeps-rule w (buildable lent e)
+
+    -- the row begins with it, and has its header
     size-is : boundedLength (heading filled) ≡ length (boundedSheet w)
-    unfolding lentAfter heading boundedSheet sheetWords outputAfter
-    size-is = ap (λ (o : List ℕ). boundedLength (heading o)) filled-is ∙ sym (sheet-is w)
+    unfolding lentAfter outputAfter
+    size-is =
+        let s = boundedSheet w in
+        let F = read-ruled s sheet-kept refl .form in
+        ap (λ (o : List ℕ). boundedLength (heading o)) filled-is
+        ∙ same-length _ s (λ i l. List·getD-append s (drop (length s) out) 0 i (omega (arith, F .size, F .copies)))
+        ∙ sym (F .size)
 
     pub front-is : frontSheet filled ≡ boundedSheet w
     front-is =
@@ -145,6 +171,5 @@ module _ (w area out : List ℕ) where
     unfolding lentAfter outputAfter
     front-fits = omega (arith, size-is, ap length filled-is, length-append (boundedSheet w) (drop (length (boundedSheet w)) out))
 
-    -- and the sheet keeps rule 11
     pub front-kept : boundedRefusal (frontSheet filled) ≡ 0
-    front-kept = ap boundedRefusal front-is ∙ keeps-rule w (buildable lent e)
+    front-kept = ap boundedRefusal front-is ∙ sheet-kept

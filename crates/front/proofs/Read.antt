@@ -3,11 +3,11 @@
 use mathlib.Core.Path.{_≡_, refl, sym, ap, _∙_}
 use mathlib.Core.Bool.{Bool, true, false}
 use mathlib.Core.List.{List}
-use Prim.Native.Nat.{ℕ}
+use Prim.Native.Nat.{ℕ, _<_}
 use native.Mathlib.Omega.{arith}
 use borrow.Author.Tests.{ltb-true, ltb-false}
 use lib.Dec.{ltb}
-use lib.ListN.{length, take}
+use lib.ListN.{length, getD, take}
 use lib.Seq.{take-all}
 use Rattle.base.specs.Checks.{refused}
 use Rattle.base.proofs.Orders.{append-stops}
@@ -19,9 +19,10 @@ use Rattle.file_words.proofs.LongFile.{long-file}
 
 module _ {A : Type 0} (f : List ℕ → A)
     (same : (v w : List ℕ) → refused listingOrder v ≡ refused listingOrder w → (refused listingOrder v ≡ 0 → ⊥) → f v ≡ f w) where
-  pub front-same : (fs : List ℕ) → f (wordsOf (take longerFile fs)) ≡ f (wordsOf fs)
+  -- of a file whose bytes are below 256 as far as they are read
+  pub front-same : (fs : List ℕ) → ((i : ℕ) → getD (take longerFile fs) i 0 < 256) → f (wordsOf (take longerFile fs)) ≡ f (wordsOf fs)
   unfolding sheetRefusal listingOrder
-  front-same fs = go (ltb (length fs) longerFile) refl
+  front-same fs bytes = go (ltb (length fs) longerFile) refl
     where
       go : (b : Bool) → ltb (length fs) longerFile ≡ b → f (wordsOf (take longerFile fs)) ≡ f (wordsOf fs)
       go true e =
@@ -30,7 +31,7 @@ module _ {A : Type 0} (f : List ℕ → A)
       go false e =
           let v = wordsOf fs in
           let w = wordsOf (take longerFile fs) in
-          let r = long-file fs (ltb-false (length fs) longerFile e) in
+          let r = long-file fs (ltb-false (length fs) longerFile e) bytes in
           let a = append-stops sheetOrder _ v (r .1) in
           let b = append-stops sheetOrder _ w (λ z. r .1 (r .0 ∙ z)) in
           sym (same v w (a ∙ r .0 ∙ sym b) (λ z. r .1 (sym a ∙ z)))

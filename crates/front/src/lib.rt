@@ -5,13 +5,13 @@ ghost use Prim.Native.Nat.{_≤_};
 ghost use lib.ListN.{length};
 ghost use Rattle.formats.specs.BoundedSheet.{heading, boundedLength};
 ghost use Rattle.front.specs.Front.{frontSheet};
-use headers::HEADING_WORDS;
 use headers::read_heading;
 use words::MOST_BOUNDED_EDGES;
+use words::MOST_BUDGETS;
 use words::MOST_COPIES;
 
-// The most words of a bounded sheet: a header and the records.
-pub const MOST_WORDS: usize = HEADING_WORDS + 3 * MOST_COPIES + 2 * MOST_BOUNDED_EDGES;
+// The most words of a bounded sheet: four, the most budgets and an entry for each, and the records.
+pub const MOST_WORDS: usize = 4 + 2 * MOST_BUDGETS + 3 * MOST_COPIES + 2 * MOST_BOUNDED_EDGES;
 
 // The bounded sheet with which a row begins, as long as its header says.
 pub fn front_sheet(row: &[u16]) -> &[u16]

@@ -1,4 +1,4 @@
 -- The parts of a listing's heading.
--- Rests on digits.
+-- Rests on base, digits.
 -- the heading by its numbers: headingText
 pub mod Heading

@@ -1,10 +1,11 @@
 -- The listing of a graph sheet by its answer, and of a whole file by its first words.
 -- Rests on calls Program, front Read, kept Held, specs Whole.
-use mathlib.Core.Path.{_≡_, refl, sym, ap, ap₂, _∙_}
+use mathlib.Core.Path.{_≡_, refl, sym, ap, ap₂, subst, _∙_}
 use mathlib.Core.Bool.{Bool, true, false}
-use mathlib.Core.List.{List}
-use Prim.Native.Nat.{ℕ, zero, suc}
-use lib.ListN.{length, take}
+use mathlib.Core.List.{List, [], _∷_}
+use Prim.Native.Nat.{ℕ, zero, suc, _<_}
+use native.Mathlib.Omega.{arith}
+use lib.ListN.{length, getD, take}
 use Rattle.base.specs.Checks.{refused}
 use Rattle.formats.specs.File.{wordsOf, oddBytes}
 use Rattle.formats.specs.Listing.{listingOf, refusalOf}
@@ -41,17 +42,24 @@ module _ (bs : List ℕ) {odd : Bool} where
   unfolding listingFrom
   even-listed q = rw (q, listingFrom)
 
--- as much of a file as is read gives the listing of the whole
-pub listed-whole : (fs : List ℕ) → listingFrom (take longerFile fs) (oddBytes fs) ≡ listing fs
+-- as much of a file as is read, in bytes below 256, gives the listing of the whole
+pub listed-whole : (fs : List ℕ) → ((i : ℕ) → getD (take longerFile fs) i 0 < 256) → listingFrom (take longerFile fs) (oddBytes fs) ≡ listing fs
 unfolding listing listingFrom
-listed-whole fs = go (oddBytes fs) refl
+listed-whole fs bytes = go (oddBytes fs) refl
   where
     go : (b : Bool) → oddBytes fs ≡ b → listingFrom (take longerFile fs) (oddBytes fs) ≡ listing fs
     go true e = rw (e, listing, listingFrom)
-    go false e = rw (e, listing, listingFrom) (front-same sheetListing same-listing fs)
+    go false e = rw (e, listing, listingFrom) (front-same sheetListing same-listing fs bytes)
 
 -- and so does what is kept of it in a row for so much
+below : (n : ℕ) (bs : List ℕ) → ((i : ℕ) → getD bs i 0 < 256) → (i : ℕ) → getD (take n bs) i 0 < 256
+below zero bs f i = omega arith
+below (suc n) [] f i = omega arith
+below (suc n) (b ∷ bs) f zero = f zero
+below (suc n) (b ∷ bs) f (suc i) = below n bs (λ j. f (suc j)) i
+
 pub listed-kept : {xs row : List ℕ} {n : ℕ} {odd : Bool} → Held xs row (holding n odd) → length row ≡ longerFile
-    → listingFrom (take n row) odd ≡ listing xs
-listed-kept {xs} H l =
-    ap₂ listingFrom (H .bytes ∙ ap (λ (n : ℕ). take n xs) l) (H .odd) ∙ listed-whole xs
+    → ((i : ℕ) → getD row i 0 < 256) → listingFrom (take n row) odd ≡ listing xs
+listed-kept {xs} {row} {n} H l bytes =
+    let front = H .bytes ∙ ap (λ (k : ℕ). take k xs) l in
+    ap₂ listingFrom front (H .odd) ∙ listed-whole xs (λ i. subst (λ (bs : List ℕ). getD bs i 0 < 256) front (below n row bytes i))

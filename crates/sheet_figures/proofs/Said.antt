@@ -1,18 +1,18 @@
 -- What is said of a refused and of an accepted sheet, from what the calls below answer and leave.
 -- Rests on formats Report, Accepted and RuleRead, calls Unused and Built, digits Wrote and Due, unused Named, specs Says.
-use mathlib.Core.Path.{_≡_, refl, sym, ap, subst, _∙_}
+use mathlib.Core.Path.{_≡_, refl, sym, ap, _∙_}
 use mathlib.Core.List.{List}
 use Prim.Native.Nat.{ℕ, zero, suc, _≤_, _<_}
 use native.Mathlib.Omega.{arith}
 use lib.ListN.{length}
 use Rattle.base.specs.Checks.{refused}
-use Rattle.formats.specs.Limits.{leastWords, mostBlocks, mostCopies, mostBoundedEdges}
+use Rattle.formats.specs.Limits.{leastWords, mostBlocks}
 use Rattle.formats.specs.GraphSheet.{Header, header}
 use Rattle.formats.specs.BoundedSheet.{Heading, heading}
 use Rattle.formats.specs.Rule11.{boundedRefusal}
 use Rattle.formats.specs.Report.{unusedBlocks, refusedAs, figuresLine, refusedLine, sheetLine}
 use Rattle.formats.proofs.Accepted.{accepted}
-use Rattle.formats.proofs.RuleRead.{clauses}
+use Rattle.formats.proofs.RuleRead.{clauses, read-ruled}
 use Rattle.calls.specs.SheetGraph.{boundedSheet}
 use Rattle.calls.specs.Program.{listingOrder}
 use Rattle.calls.specs.Report.{acceptedFigures}
@@ -67,12 +67,8 @@ module _ (w : List ℕ) (e : refused listingOrder w ≡ 0) where
 
       pub accepted-small : (s : ℕ) → Small (record { blocks = g .blocks; copies = h .copies; edges = h .edges; size = s })
       accepted-small s =
-          let K = listed w e in
-          record {
-            blocks = omega (arith, i, blocks-most);
-            copies = subst (λ (x : ℕ). x ≤ mostCopies) (sym j) (K .few);
-            edges = subst (λ (x : ℕ). x ≤ mostBoundedEdges) (sym k) (K .edges);
-          }
+          let F = read-ruled t rule-kept b .form in
+          record { blocks = omega (arith, i, blocks-most); copies = F .copies .1; edges = F .edges .1 }
 
       pub accepted-says : {p s : ℕ} {marks old text : List ℕ} → markedBlocks marks ≡ unusedBlocks (g .blocks) t
           → Wrote old 0 (figuresLine p (g .blocks) (h .copies) (h .edges)) text s × (s ≤ length text)

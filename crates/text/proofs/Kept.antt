@@ -10,7 +10,7 @@ use Rattle.base.specs.Lists.{each, from}
 use Rattle.base.proofs.Lists.{from-i, from-length}
 use Rattle.formats.specs.Limits.{mostBlocks, mostCopies}
 use Rattle.formats.specs.BoundedSheet.{Heading, blockAt, lowAt, copyAt, chainAt, targetsAt}
-use Rattle.formats.specs.Rule11.{Ruled}
+use Rattle.formats.specs.Rule11.{startCount, Ruled}
 use Rattle.formats.proofs.RuleKept.{RowFits}
 use Rattle.formats.proofs.RuleWords.{rowAt, rows}
 use Rattle.formats.proofs.RuleRead.{met-is, chain-inside, rows-length, row-fits}
@@ -24,14 +24,14 @@ module _ (h : Heading) (s : List ℕ) (R : Ruled h s) where
   readable = record { size = omega (arith, R .form .size); inside = λ i p q. chain-inside h s R p q refl }
 
   module _ (i : ℕ) (p : 1 ≤ i) (q : i ≤ h .copies) where
-    fits : RowFits (length (rows h s)) (h .budget) (rowAt h s i)
+    fits : RowFits (length (rows h s)) (startCount h s) (h .largest) (rowAt h s i)
     fits = row-fits h s R i (from-i (h .copies) 1 i p (omega arith))
 
     pub block-most : blockAt h s i ≤ mostBlocks
     unfolding rowAt copyAt
     block-most = fits .block .1
 
-    pub low-most : lowAt h s i ≤ h .budget
+    pub low-most : lowAt h s i ≤ h .largest
     unfolding rowAt copyAt
     low-most = fits .low
 

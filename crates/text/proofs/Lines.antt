@@ -5,11 +5,12 @@ use mathlib.Core.List.{List, [], _∷_, _++_}
 use Prim.Native.Nat.{ℕ, _+_}
 use lib.ListN.{length, length-append}
 use Rattle.base.specs.Lists.{each, from}
+use Rattle.formats.specs.Versions.{budgetsIn}
 use Rattle.formats.specs.BoundedSheet.{Heading, heading, blockAt, lowAt, chainAt, targetsAt}
 use Rattle.formats.specs.Listing.{decimal, line, headingLine, copyLine, listingOf, refusalOf}
 use Rattle.digits.specs.Spaced.{spaced}
 use Rattle.digits.proofs.NumberLine.{newlineText, numbers-line}
-use Rattle.heading_line.specs.Heading.{headingText}
+use Rattle.heading_line.specs.Heading.{copiesText, edgesText, headingText}
 use Rattle.copy_line.specs.Line.{copyText, lineAt}
 use Rattle.text.specs.Texts.{copyLines}
 
@@ -17,14 +18,20 @@ use Rattle.text.specs.Texts.{copyLines}
 abbrev pub refusedText : List ℕ
 refusedText = 114 ∷ 101 ∷ 102 ∷ 117 ∷ 115 ∷ 101 ∷ 100 ∷ []
 
+-- `budget`
+abbrev budgetName : List ℕ
+budgetName = 98 ∷ 117 ∷ 100 ∷ 103 ∷ 101 ∷ 116 ∷ []
+
 -- THE LISTING
 module _ (s : List ℕ) where
   abbrev h : Heading
   h = heading s
 
-  heading-is : headingLine s ≡ headingText (h .copies) (h .edges) (h .budget)
+  heading-is : headingLine s ≡ headingText (h .copies) (h .edges) (budgetsIn s)
   unfolding headingLine line headingText spaced
-  heading-is = refl
+  heading-is =
+      ap (λ (w : List ℕ). (copiesText ++ spaced (h .copies)) ++ ((edgesText ++ spaced (h .edges)) ++ (32 ∷ w)))
+      (numbers-line budgetName (budgetsIn s))
 
   copy-is : (i : ℕ) → copyLine s i ≡ lineAt s (h .records) (h .copies) (h .edges) i
   unfolding copyLine line copyText spaced targetsAt chainAt
@@ -32,13 +39,13 @@ module _ (s : List ℕ) where
       ap (λ (w : List ℕ). decimal i ++ (32 ∷ (decimal (blockAt h s i) ++ (32 ∷ w))))
       (numbers-line (decimal (lowAt h s i)) (targetsAt h s i))
 
-  -- by what its header was read as
-  pub listing-is : {g : Heading} → g ≡ h
-      → listingOf s ≡ headingText (g .copies) (g .edges) (g .budget) ++ copyLines s (g .records) (g .copies) (g .edges)
+  -- by what its header and its budgets were read as
+  pub listing-is : {g : Heading} {bs : List ℕ} → g ≡ h → bs ≡ budgetsIn s
+      → listingOf s ≡ headingText (g .copies) (g .edges) bs ++ copyLines s (g .records) (g .copies) (g .edges)
   unfolding listingOf
-  listing-is q =
+  listing-is q r =
       ap₂ (λ (x : List ℕ) (l : ℕ → List ℕ). x ++ each l (from 1 (h .copies))) heading-is (λ k i. copy-is i k)
-      ∙ ap (λ (g : Heading). headingText (g .copies) (g .edges) (g .budget) ++ copyLines s (g .records) (g .copies) (g .edges)) (sym q)
+      ∙ ap₂ (λ (g : Heading) (bs : List ℕ). headingText (g .copies) (g .edges) bs ++ copyLines s (g .records) (g .copies) (g .edges)) (sym q) (sym r)
 
 -- A REFUSAL
 pub refusal-is : (n : ℕ) → refusalOf n ≡ (refusedText ++ spaced n) ++ newlineText

@@ -1,19 +1,20 @@
--- How long the texts are at most: a heading 34 bytes, a copy's line 13 and 5 for each target, a refusal 14.
+-- How long the texts are at most: a heading 30 bytes and 4 for each budget, a copy's line 13 and 5 for each target, a refusal 14.
 -- Rests on base Lists, formats Listing and RuleRead, digits Spaced, Decimals and Room, heading_line Heading, copy_line Lines, specs Texts, Lines, Kept.
-use mathlib.Core.Path.{_≡_, refl, ap}
+use mathlib.Core.Path.{_≡_, refl, sym, ap, subst}
 use mathlib.Core.List.{List, [], _∷_, List·Memᴰ, List·Memᴰ·head, List·Memᴰ·tail}
 use Prim.Native.Nat.{ℕ, _+_, _*_, _≤_, _<_}
 use native.Mathlib.Omega.{arith}
 use lib.ListN.{length, length-append, length-map}
 use Rattle.base.specs.Lists.{each, from}
 use Rattle.base.proofs.Lists.{from-e, from-length}
-use Rattle.formats.specs.Limits.{mostBudget, mostCopies}
+use Rattle.formats.specs.Limits.{mostBudget, mostBudgets, mostCopies}
+use Rattle.formats.specs.Versions.{budgetsIn, Claimed}
 use Rattle.formats.specs.BoundedSheet.{Heading, heading, blockAt, lowAt, targetAt, chainAt, targetsAt}
 use Rattle.formats.specs.Rule11.{boundedRefusal, Ruled}
 use Rattle.formats.specs.Listing.{refusalOf}
 use Rattle.formats.proofs.RuleRead.{clauses, read-ruled}
 use Rattle.digits.specs.Spaced.{spaced}
-use Rattle.heading_line.specs.Heading.{copiesText, edgesText, budgetText, headingText}
+use Rattle.heading_line.specs.Heading.{copiesText, edgesText, headingText}
 use Rattle.heading_line.proofs.Heading.{heading-length}
 use Rattle.copy_line.specs.Line.{lineAt}
 use Rattle.copy_line.proofs.Lines.{copy-length}
@@ -45,20 +46,20 @@ pub refusal-fits : (n : ℕ) → n < 100000 → length (refusalOf n) ≤ refusal
 refusal-fits n l =
     omega (arith, refusal-length n, length-append refusedText (spaced n), spaced-5 n l)
 
-module _ (h : Heading) (s : List ℕ) (R : Ruled h s) (most : h .budget ≤ mostBudget) where
-  heading-room : length (headingText (h .copies) (h .edges) (h .budget)) ≤ 34
+module _ (h : Heading) (s : List ℕ) (R : Ruled h s) (most : h .largest ≤ mostBudget) (bs : List ℕ) (claims : Claimed bs) where
+  heading-room : length (headingText (h .copies) (h .edges) bs) ≤ 30 + 4 * mostBudgets
   heading-room =
       let c = R .form .copies .1 in
       let f = R .form .edges .1 in
       omega (
         arith,
-        heading-length (h .copies) (h .edges) (h .budget),
+        heading-length (h .copies) (h .edges) bs,
         length-append copiesText (spaced (h .copies)),
         length-append edgesText (spaced (h .edges)),
-        length-append budgetText (spaced (h .budget)),
         spaced-4 (h .copies) (omega arith),
         spaced-4 (h .edges) (omega arith),
-        spaced-3 (h .budget) (omega arith),
+        each-room spaced 4 bs (λ b m. spaced-3 b (omega (arith, claims .small b m))),
+        claims .count,
       )
 
   copy-room : (i : ℕ) → 1 ≤ i → i ≤ h .copies → length (lineAt s (h .records) (h .copies) (h .edges) i) ≤ 13 + 5 * length (chainAt h s i)
@@ -78,7 +79,7 @@ module _ (h : Heading) (s : List ℕ) (R : Ruled h s) (most : h .budget ≤ most
       )
 
   -- the heading and the copies' lines together
-  all-fit : length (headingText (h .copies) (h .edges) (h .budget)) + length (copyLines s (h .records) (h .copies) (h .edges)) ≤ listingRoom
+  all-fit : length (headingText (h .copies) (h .edges) bs) + length (copyLines s (h .records) (h .copies) (h .edges)) ≤ listingRoom
   all-fit =
       let is = from 1 (h .copies) in
       let c = R .form .copies .1 in
@@ -87,8 +88,9 @@ module _ (h : Heading) (s : List ℕ) (R : Ruled h s) (most : h .budget ≤ most
       (λ i m. let b = from-e (h .copies) 1 i m in copy-room i (b .0) (omega arith)) in
       omega (arith, heading-room, r, from-length (h .copies) 1, all-edges h s R)
 
--- behind what the header was read as
-pub listing-fits : (s : List ℕ) → boundedRefusal s ≡ 0 → {h : Heading} → h ≡ heading s
-    → length (headingText (h .copies) (h .edges) (h .budget)) + length (copyLines s (h .records) (h .copies) (h .edges)) ≤ listingRoom
-listing-fits s ok {h} q =
-    all-fit h s (read-ruled s ok q) (omega (arith, ap (λ (x : Heading). x .budget) q, clauses s ok .budget))
+-- behind what the header and the budgets were read as
+pub listing-fits : (s : List ℕ) → boundedRefusal s ≡ 0 → {h : Heading} {bs : List ℕ} → h ≡ heading s → bs ≡ budgetsIn s
+    → length (headingText (h .copies) (h .edges) bs) + length (copyLines s (h .records) (h .copies) (h .edges)) ≤ listingRoom
+listing-fits s ok {h} {bs} q r =
+    let C = clauses s ok in
+    all-fit h s (read-ruled s ok q) (omega (arith, ap (λ (x : Heading). x .largest) q, C .budget)) bs (subst Claimed (sym r) (C .claims))

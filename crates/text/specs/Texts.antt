@@ -3,12 +3,12 @@
 use mathlib.Core.List.{List}
 use Prim.Native.Nat.{ℕ, _+_, _*_}
 use Rattle.base.specs.Lists.{each, from}
-use Rattle.formats.specs.Limits.{mostCopies, mostBoundedEdges}
+use Rattle.formats.specs.Limits.{mostBudgets, mostCopies, mostBoundedEdges}
 use Rattle.copy_line.specs.Line.{lineAt}
 
--- a heading of at most 34 bytes, a copy's line of at most 13 and 5 more for each target
+-- a heading of at most 30 bytes and 4 more for each budget, a copy's line of at most 13 and 5 more for each target
 abbrev pub listingRoom : ℕ
-listingRoom = 34 + 13 * mostCopies + 5 * mostBoundedEdges
+listingRoom = 30 + 4 * mostBudgets + 13 * mostCopies + 5 * mostBoundedEdges
 
 -- `refused`, a space, at most 5 digits, a newline
 abbrev pub refusalRoom : ℕ

@@ -3,6 +3,8 @@
 ghost use mathlib.Core.Path.{_≡_};
 ghost use Prim.Native.Nat.{_+_, _≤_};
 ghost use lib.ListN.{length};
+ghost use Rattle.formats.specs.Limits.{leastWords};
+ghost use Rattle.formats.specs.Versions.{budgetsAt, budgetCount, budgetsIn};
 ghost use Rattle.formats.specs.Rule11.{boundedRefusal};
 ghost use Rattle.formats.specs.Listing.{listingOf, refusalOf};
 ghost use Rattle.digits.specs.Wrote.{Wrote};
@@ -12,15 +14,29 @@ use copy_line::write_copy;
 use digits::NEWLINE;
 use digits::put_byte;
 use digits::put_named;
+use headers::read_budgets;
 use headers::read_heading;
 use heading_line::write_heading;
 use words::MOST_BOUNDED_EDGES;
+use words::MOST_BUDGETS;
 use words::MOST_COPIES;
 
 // The room that the text of any bounded sheet, and of any refusal, takes.
-pub const TEXT_SIZE: usize = 34 + 13 * MOST_COPIES + 5 * MOST_BOUNDED_EDGES;
+pub const TEXT_SIZE: usize = 30 + 4 * MOST_BUDGETS + 13 * MOST_COPIES + 5 * MOST_BOUNDED_EDGES;
 
 pub const REFUSAL_SIZE: usize = 14;
+
+// The budgets of a sheet, a part of it.
+fn budgets_part(s: &[u16]) -> &[u16]
+    requires { ⌜ (leastWords ≤ length (now s)) × (budgetsAt (now s) + budgetCount (now s) ≤ length (now s)) ⌝ }
+    ensures { λ r. ⌜ now r ≡ budgetsIn (now (s .entry)) ⌝ }
+{
+    let at = read_budgets(s);
+    let first = at.first;
+    let count = at.count;
+    let end = first + count;
+    &s[first..end]
+}
 
 // Writes the lines of all copies.
 fn write_copies(s: &[u16], text: &mut [u8], p: usize, at: usize, c: usize, f: usize) -> usize
@@ -44,7 +60,7 @@ pub fn write_listing(s: &[u16], text: &mut [u8]) -> usize
     ensures { λ r. ⌜ Wrote (now (text .entry)) 0 (listingOf (now (s .entry))) (now (text .exit)) r × (r ≤ length (now (text .exit))) ⌝ }
 {
     let h = read_heading(s);
-    let p = write_heading(text, h.copies, h.edges, h.budget);
+    let p = write_heading(text, h.copies, h.edges, budgets_part(s));
     write_copies(s, text, p, h.records, h.copies, h.edges)
 }
 

@@ -4,14 +4,14 @@
 use borrow.Author.Needs.{needs}
 use mathlib.Core.Path.{_≡_, ap}
 use mathlib.Core.List.{List}
-use Prim.Native.Nat.{ℕ, _+_, _*_, _<_, _≤_}
+use Prim.Native.Nat.{ℕ, _<_, _≤_}
 use native.Mathlib.Omega.{arith}
-use lib.ListN.{length, getD, replicate}
+use lib.ListN.{length, getD}
 use Rattle.formats.specs.Limits.{wordLimit}
 use Rattle.formats.specs.GraphSheet.{Header, headerOf}
 use Rattle.formats.specs.BoundedSheet.{Heading, headingOf}
 use Rattle.digits.specs.Wrote.{Wrote}
-use Rattle.decimal.specs.Writing.{records, layout, linesText, sheetText}
+use Rattle.decimal.specs.Writing.{layout, linesText, sheetText}
 use Rattle.decimal.proofs.Layouts.{total-replicate, header-least, heading-least}
 use Rattle.decimal.proofs.Layouts.{layout-graph, layout-bounded, layout-other, layout-short}
 use Rattle.decimal.proofs.Rooms.{sheet-fits, sheet-ends}
@@ -49,7 +49,7 @@ module _ (c : tie.After-read-heading) where
   start = c .before .before .before .before .before
 
   abbrev second : Heading
-  second = let h = c .read-heading .result in headingOf (h .records) (h .copies) (h .edges) (h .budget)
+  second = let h = c .read-heading .result in headingOf (h .records) (h .copies) (h .edges) (h .largest)
 
 -- SHORTER THAN A HEADER
 

@@ -15,9 +15,9 @@ use Rattle.decimal.proofs.put_line.Statement.{statement}
 use Rattle.decimal.proofs.put_line.Tie as tie
 
 -- the line's length, by the first word as it was read
-counted : (c : tie.After-wide) → length (line (map decimal (c .before .before .before .before .before .args .ws .now)))
-    ≡ length (decimal (c .wide .result)) + (length (each spaced (behind 1 (c .before .before .before .before .before .args .ws .now))) + 1)
-counted c = let z = c .before .before .before .before .before in line-length (z .args .ws .now) (c .wide .result) (z .pre .0) (c .wide .ensures .0)
+counted : (c : tie.After-word-at) → length (line (map decimal (c .before .before .before .before .args .ws .now)))
+    ≡ length (decimal (c .word-at .result)) + (length (each spaced (behind 1 (c .before .before .before .before .args .ws .now))) + 1)
+counted c = let z = c .before .before .before .before in line-length (z .args .ws .now) (c .word-at .result) (z .pre .0) (c .word-at .ensures .0)
 
 put-decimal-requires : tie.Need-put-decimal-requires
 put-decimal-requires c κs = omega (arith, counted c)
@@ -45,12 +45,12 @@ returns c =
     let n = c .before .before .before .before .before .before in
     let d = n .before .before .before .before .before in
     let w = d .before in
-    let z = w .before .before .before .before .before in
+    let z = w .before .before .before .before in
     wrote-as (wrote-then (d .put-decimal .ensures) (wrote-then (n .put-numbers .ensures) (c .before .before .put-byte .ensures)))
-    (sym (line-is (z .args .ws .now) (w .wide .result) (z .pre .0) (w .wide .ensures .0)))
+    (sym (line-is (z .args .ws .now) (w .word-at .result) (z .pre .0) (w .word-at .ensures .0)))
 
 pub put-line-spec : {M : Type 1} → statement M
 put-line-spec =
     tie.close
-    (tie.spec (λ c. search needs) (λ c κs. search needs) put-decimal-requires (λ c. search needs) (λ c. search needs) (λ c. search needs)
+    (tie.spec (λ c κs. search needs) put-decimal-requires (λ c. search needs) (λ c. search needs) (λ c. search needs)
     put-numbers-requires put-byte-requires (λ c. search needs) returns)

@@ -30,10 +30,11 @@ returns-2 c =
     let r = c .before .before .before .before in
     let w = r .before .before .before .before .before in
     let i = w .before .before in
-    let bytes = i .before .before .before .before .args .bytes .now in
+    let k = i .before .before .before in
+    let bytes = k .before .args .bytes .now in
     let S = r .report-sheet .ensures in
     let front = words-first bytes _ _ _ (w .words-of .ensures .1) (w .words-of .ensures .0) in
-    (reports-whole bytes (i .if1 .left) front (S .0), (S .0 .inside, S .1))
+    (reports-whole bytes (i .if1 .left) front (λ j. omega (arith, k .shared-slice-known .given j)) (S .0), (S .0 .inside, S .1))
 
 pub report-item-spec : {M : Type 1} → statement M
 report-item-spec =

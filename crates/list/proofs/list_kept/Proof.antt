@@ -1,4 +1,4 @@
--- The first bytes of an input and its parity give the listing of the whole.
+-- The first bytes of an input and its parity give the listing of the whole; each is below 256, as the slice has it.
 -- Rests on digits Due, Files.
 use borrow.Author.Needs.{needs}
 use mathlib.Core.Path.{sym}
@@ -19,9 +19,10 @@ list-file-requires c κs =
 
 returns : tie.Need-returns
 returns c =
-    let z = c .before .before .before .before .before .before .before in
+    let k = c .before .before .before .before .before .before in
+    let z = k .before in
     let e = c .before .before .list-file .ensures in
-    (e .1, λ xs H. wrote-as (e .0) (listed-kept H (z .pre .0 .0)))
+    (e .1, λ xs H. wrote-as (e .0) (listed-kept H (z .pre .0 .0) (λ i. omega (arith, k .shared-slice-known .given i))))
 
 pub list-kept-spec : {M : Type 1} → statement M
 list-kept-spec =

@@ -1,5 +1,5 @@
 -- The words are written one by one, each behind a space.
--- Rests on digits Due, Lines.
+-- Rests on digits Due, Numbers.
 use mathlib.Core.Path.{refl, ap}
 use Prim.Native.Nat.{_+_, _-_, _≤_}
 use native.Mathlib.Omega.{arith}
@@ -8,9 +8,9 @@ use lib.ListN.{length, drop, drop-of-length-le}
 use Rattle.base.specs.Lists.{each}
 use Rattle.digits.specs.Spaced.{spaced}
 use Rattle.digits.proofs.Due.{Due, due-start, due-as, due-room, due-step, due-end}
-use Rattle.decimal.proofs.Lines.{numbers-next}
-use Rattle.decimal.proofs.put_numbers.Statement.{statement}
-use Rattle.decimal.proofs.put_numbers.Tie as tie
+use Rattle.heading_line.proofs.Numbers.{numbers-next}
+use Rattle.heading_line.proofs.put_numbers.Statement.{statement}
+use Rattle.heading_line.proofs.put_numbers.Tie as tie
 
 abbrev Inv-loop : tie.InvT-loop
 Inv-loop ws text₀ at p₀ i₀ text p i = (i ≤ length ws) × Due text₀ at (each spaced ws) text p (each spaced (drop i ws))
@@ -23,19 +23,19 @@ loop-holds c = let z = c .before .before in (omega arith, due-start (each spaced
 
 put-number-requires : tie.Need-put-number-requires Inv-loop μ-loop
 put-number-requires c κs =
-    let d = c .before .before .before in
+    let d = c .before .before in
     let l = d .before .loop in
     let ws = d .before .before .before .before .args .ws .now in
-    let due = due-as _ (l .inv .1) (numbers-next ws (l .i) (c .wide .result) (d .loop-test .taken) (c .wide .ensures .0)) in
-    due-room (spaced (c .wide .result)) (each spaced (drop (l .i + 1) ws)) due
+    let due = due-as _ (l .inv .1) (numbers-next ws (l .i) (c .word-at .result) (d .loop-test .taken) (c .word-at .ensures .0)) in
+    due-room (spaced (c .word-at .result)) (each spaced (drop (l .i + 1) ws)) due
 
 loop-again : tie.Need-loop-again Inv-loop μ-loop
 loop-again c =
-    let d = c .before .before .before .before .before .before in
+    let d = c .before .before .before .before .before in
     let l = d .before .loop in
     let ws = d .before .before .before .before .args .ws .now in
     let put = c .before .before .put-number in
-    let w = c .before .before .before .wide in
+    let w = c .before .before .before .word-at in
     let due = due-as _ (l .inv .1) (numbers-next ws (l .i) (w .result) (d .loop-test .taken) (w .ensures .0)) in
     (omega arith, due-step (spaced (w .result)) (each spaced (drop (l .i + 1) ws)) due (put .ensures) (put .kept .0))
 
@@ -49,5 +49,5 @@ returns c = let l = c .before .loop in due-end (l .inv .1) (ap (each spaced) (dr
 pub put-numbers-spec : {M : Type 1} → statement M
 put-numbers-spec =
     tie.close
-    (tie.spec Inv-loop μ-loop loop-holds (λ c. search needs) (λ c. search needs) (λ c κs. search needs) put-number-requires
-    (λ c. search needs) (λ c. search needs) loop-again same-length returns)
+    (tie.spec Inv-loop μ-loop loop-holds (λ c κs. search needs) put-number-requires (λ c. search needs) (λ c. search needs) loop-again
+    same-length returns)
