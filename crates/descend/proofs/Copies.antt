@@ -1,16 +1,14 @@
 -- Copies of a flat row's graph within a budget: where they lie, that their lows cover their blocks, and the look-up by its row.
 -- Rests on base Options and Cells, theory Completions and Counts, graph_row Laws, cells Cells, specs Marks.
 use mathlib.Core.Path.{_≡_, refl, sym, ap, _∙_}
-use mathlib.Core.Bool.{false}
 use mathlib.Core.List.{List, []}
 use mathlib.Core.Option.{some}
 use Prim.Native.Nat.{ℕ, zero, suc, _-_, _≤_, _<_}
 use native.Mathlib.Omega.{arith}
 use lib.ListN.{length, getD}
-use Rattle.base.specs.Lists.{optionOf, isNone}
+use Rattle.base.specs.Lists.{optionOf}
 use Rattle.base.specs.Cells.{cellOf}
-use Rattle.base.proofs.Truth.{not-both}
-use Rattle.base.proofs.Options.{option-none, option-some}
+use Rattle.base.proofs.Options.{option-some}
 use Rattle.base.proofs.Cells.{cell-inside}
 use Rattle.theory.specs.Completions.{Completion, completes, lowOf}
 use Rattle.theory.proofs.Completions.{IsLargest, completes-sound, largest-some, covers}
@@ -85,20 +83,13 @@ module _ {row : List ℕ} (F : Flat row) where
         pub look-serves : Serves (graphIn row) b v (optionOf x)
         look-serves = record { cost = λ a q. low-of a q .passes; small = λ a q. omega (arith, low-of a q .below, P .low) }
 
-    -- THE START, whose number at the budget is not 0
-    pub start-place : Placed (blocksIn row) b 1 b
-    start-place = record { block = omega (arith, F .blocks); low = omega arith }
+    -- THE START, with a budget up to b
+    pub start-place : (c : ℕ) → c ≤ b → Placed (blocksIn row) b 1 c
+    start-place c l = record { block = omega (arith, F .blocks); low = l }
 
-    module _ (opens : isNone (lowOf (graphIn row) 1 b) ≡ false) {x : ℕ} (e : x ≡ getD lows (cellOf b 1 b) 0) where
-      pub start-some : x ≡ 0 → ⊥
-      unfolding isNone
-      start-some z = not-both (ap isNone (sym (look-up start-place e) ∙ option-none x refl z)) opens
-
-      pub start-low : lowOf (graphIn row) 1 b ≡ some (x - 1)
-      start-low = sym (look-up start-place e) ∙ option-some x refl start-some
-
-      pub start-fits : Placed (blocksIn row) b 1 (x - 1)
-      start-fits = record { block = start-place .block; low = look-serves start-place e .small (x - 1) (option-some x refl start-some) }
+    -- and its copy, of a number that is not 0
+    pub start-fits : {x : ℕ} → Serves (graphIn row) b 1 (optionOf x) → (x ≡ 0 → ⊥) → Placed (blocksIn row) b 1 (x - 1)
+    start-fits {x} s n = start-place (x - 1) (s .small (x - 1) (option-some x refl n))
 
   -- behind the start all its cycles are left
   pub start-left : (l : ℕ) → l ≡ l - graphIn row .cost 1

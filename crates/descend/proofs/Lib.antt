@@ -10,3 +10,5 @@ pub mod Edges
 pub mod Trail
 -- from clear marks: ready-clear, only-copies, all-marked; so the marked copies are those of the task: all-taken
 pub mod Exact
+-- the budgets one by one: Outset
+pub mod Outset

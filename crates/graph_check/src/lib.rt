@@ -1,4 +1,4 @@
-// A public call on a graph sheet: its conditions 1 to 8 in order.
+// A public call on a graph sheet: its conditions 1 to 8 in order, with 41 behind 4.
 // Rests on words, headers, form_check, edge_check; the promise is an equation with formats GraphSheet.
 ghost use mathlib.Core.Path.{_≡_};
 ghost use Rattle.base.specs.Checks.{refused};
@@ -54,7 +54,7 @@ pub fn edge_answer(s: &[u16], at: usize, n: usize, m: usize) -> u16
     0
 }
 
-// The first condition of 1 to 8 that holds, 0 where none does.
+// The first of the conditions 1 to 4, 41 and 5 to 8 that holds, 0 where none does.
 pub fn check_graph(s: &[u16]) -> u16
     ensures { λ r. ⌜ r ≡ sheetRefusal (now (s .entry)) ⌝ }
 {

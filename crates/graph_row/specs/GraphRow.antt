@@ -6,7 +6,7 @@ use Prim.Native.Nat.{ℕ, _+_, _-_, _*_, _≤_, _<_}
 use lib.ListN.{length, getD, take, drop}
 use Rattle.base.specs.Checks.{outside}
 use Rattle.theory.specs.Completions.{Graph}
-use Rattle.theory.specs.Tasks.{Task, taskWith}
+use Rattle.theory.specs.Tasks.{Task}
 use Rattle.theory.specs.Setting.{WellFormed}
 use Rattle.formats.specs.Limits.{mostBlocks, mostEdges}
 
@@ -38,9 +38,9 @@ module _ (row : List ℕ) where
     next = λ v. elim (outside 1 blocksIn v) [ true ↦ [] | false ↦ nextIn v ];
   }
 
-  -- the task with some budgets
-  abbrev pub taskIn : List ℕ → Task
-  taskIn bs = taskWith graphIn blocksIn bs
+  -- the task with some budgets, of which b is the largest
+  abbrev pub taskIn : List ℕ → ℕ → Task
+  taskIn bs b = record { graph = graphIn; blocks = blocksIn; budgets = bs; largest = b }
 
   -- what such a row keeps: limits, room for what it names, and a well-formed graph whose edges lead to its blocks
   pub record Flat : Type 0 where

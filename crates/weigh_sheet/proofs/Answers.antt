@@ -16,7 +16,8 @@ use Rattle.base.proofs.Options.{option-none, option-some}
 use Rattle.base.proofs.Orders.{pick, tested, none-left, append-stops, append-passes, over-passes, over-stops}
 use Rattle.theory.specs.Completions.{lowOf}
 use Rattle.formats.specs.Limits.{mostBudget}
-use Rattle.formats.specs.GraphSheet.{header, budgetIn, sheetOrder, sheetRefusal}
+use Rattle.formats.specs.Versions.{largestIn}
+use Rattle.formats.specs.GraphSheet.{header, sheetOrder, sheetRefusal}
 use Rattle.formats.proofs.Accepted.{accepted, graph-numbered}
 use Rattle.calls.specs.SheetGraph.{task, graph}
 use Rattle.calls.specs.Area.{areaSize, filled, HasCell, Table}
@@ -42,7 +43,7 @@ module _ (w area : List ℕ) where
   sheet-refused {r} q n = q ∙ sym (over-stops (λ i. i .sheet) sheetOrder areaOrder i (λ z. n (q ∙ z)))
 
   -- the code's product is the length that the sheet asks for
-  module _ (ok : sheetRefusal w ≡ 0) {n b : ℕ} (p : n ≡ header w .blocks) (q : b ≡ budgetIn w) where
+  module _ (ok : sheetRefusal w ≡ 0) {n b : ℕ} (p : n ≡ header w .blocks) (q : b ≡ largestIn w) where
     pub size-small : n * (b + 1) ≤ 128 * 501
     size-small =
         let A = accepted w ok in
@@ -66,7 +67,7 @@ module _ (w area : List ℕ) where
 
   -- BEHIND IT: the decoded row is weighed, and block 1 looked up at the budget
   module _ (ok : sheetRefusal w ≡ 0) (room : taskArea (task w) ≤ length area) {row : List ℕ} (D : Decoded (header w) w row) {b : ℕ}
-      (q : b ≡ budgetIn w) where
+      (q : b ≡ largestIn w) where
     pub budget-small : b ≤ mostBudget
     budget-small = omega (arith, accepted w ok .budget)
 
@@ -75,13 +76,13 @@ module _ (w area : List ℕ) where
     row-ready = ready (D .flat) (budget-small, rw (D .blocks, q) room)
 
     module _ {after : List ℕ} (f : after ≡ filled (graphIn row) (blocksIn row) b area) where
-      pub area-filled : after ≡ filled (graph w) (header w .blocks) (budgetIn w) area
+      pub area-filled : after ≡ filled (graph w) (header w .blocks) (largestIn w) area
       area-filled = f ∙ (λ i. filled (D .same i) (D .blocks i) (q i) area)
 
-      table : Table (graph w) (header w .blocks) (budgetIn w) after
+      table : Table (graph w) (header w .blocks) (largestIn w) after
       unfolding taskArea
-      table = subst (Table (graph w) (header w .blocks) (budgetIn w)) (sym area-filled)
-          (filled-table (graph w) (header w .blocks) (budgetIn w) area room)
+      table = subst (Table (graph w) (header w .blocks) (largestIn w)) (sym area-filled)
+          (filled-table (graph w) (header w .blocks) (largestIn w) area room)
 
       pub start-cell : Within b 1 b × HasCell after (cellOf b 1 b)
       start-cell =
@@ -91,13 +92,13 @@ module _ (w area : List ℕ) where
             area-cell (header w .blocks) b 1 b after (omega arith) (omega arith) (omega arith) (T .room),
           )
 
-      pub start-low : (x : ℕ) → optionOf x ≡ lowIn b after 1 b → optionOf x ≡ lowOf (graph w) 1 (budgetIn w)
+      pub start-low : (x : ℕ) → optionOf x ≡ lowIn b after 1 b → optionOf x ≡ lowOf (graph w) 1 (largestIn w)
       start-low x e =
           let n = accepted w ok .sound .form .blocks in
-          e ∙ ap (λ (y : ℕ). lowIn y after 1 y) q ∙ low-in table 1 (budgetIn w) (omega arith) (omega arith) (omega arith)
+          e ∙ ap (λ (y : ℕ). lowIn y after 1 y) q ∙ low-in table 1 (largestIn w) (omega arith) (omega arith) (omega arith)
 
   -- BEHIND IT: 9
-  module _ (x : ℕ) (e : optionOf x ≡ lowOf (graph w) 1 (budgetIn w)) where
+  module _ (x : ℕ) (e : optionOf x ≡ lowOf (graph w) 1 (largestIn w)) where
     pub fits-not : x ≡ 0 → 9 ≡ refused fitOrder i
     unfolding nothingFits isNone
     fits-not z = sym (tested 9 (λ i. nothingFits (task (i .sheet))) [] i (ap isNone (option-none x e z)) (none-left i))
@@ -130,7 +131,7 @@ module _ (w area : List ℕ) where
       go false e = ap beforeWeighing (q ∙ tested 9 (λ i. nothingFits (task (i .sheet))) [] i e (none-left i)) ∙ spared 0
 
   pub front-passed : {r : ℕ} {after : List ℕ} → refused frontOrder i ≡ 0 → r ≡ refused fitOrder i
-      → after ≡ filled (graph w) (header w .blocks) (budgetIn w) area → Weighs r after
+      → after ≡ filled (graph w) (header w .blocks) (largestIn w) area → Weighs r after
   unfolding weighOrder
   front-passed {r} z q f =
       weighs r (append-passes frontOrder fitOrder i front-numbered z ∙ sym q) (f ∙ late-area w area r (late q))

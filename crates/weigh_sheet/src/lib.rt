@@ -14,7 +14,7 @@ ghost use Rattle.weigh_sheet.specs.Rows.{Rows};
 use flatten::flatten;
 use graph_check::check_graph;
 use graph_row::ROW_WORDS;
-use headers::budget;
+use headers::largest;
 use headers::read_header;
 use look::look_up;
 use weigh::weigh;
@@ -35,7 +35,7 @@ pub fn front(s: &[u16], area: &[u8]) -> u16
         return a;
     }
     let h = read_header(s);
-    let b = budget(s);
+    let b = largest(s);
     if area.len() < h.blocks * (b + 1) {
         return 21;
     }
@@ -68,7 +68,7 @@ pub fn weigh_into(
     ensures { λ _. ⌜ Decoded (header (now (s .entry))) (now (s .entry)) (now (row .exit)) ⌝ }
 {
     decode(s, row);
-    let b = budget(s);
+    let b = largest(s);
     weigh(row, nexts, has, area, b);
     let x = look_up(area, b, 1, b);
     if x.low == 0 {

@@ -1,81 +1,67 @@
--- `descend::reach` marks exactly the copies of the task, the start's and those that its chain hands on to, or meets too many edges.
--- Rests on graph_row Laws, Copies, Marks, Edges, Exact.
-use mathlib.Core.Path.{sym, _∙_}
-use native.Mathlib.Omega.{arith}
+-- `descend::reach` marks exactly the copies of the task, from the start copy of each budget, or meets too many edges.
+-- Rests on Outset.
 use borrow.Author.Needs.{needs}
-use Rattle.graph_row.proofs.Laws.{next-length}
-use Rattle.descend.proofs.Copies.{mark-cell, look-cell, start-place, start-some, start-low, start-fits, start-left}
-use Rattle.descend.proofs.Marks.{unmarked, ready-on, from-mark, visited}
-use Rattle.descend.proofs.Edges.{all-left, copy-edges}
-use Rattle.descend.proofs.Exact.{ready-clear, only-copies, all-marked, all-taken}
+use mathlib.Core.Path.{sym, ap, _∙_}
+use Prim.Native.Nat.{ℕ, _-_}
+use native.Mathlib.Omega.{arith}
+use lib.ListN.{length}
+use Rattle.descend.proofs.Outset.{Outset, outset, given, start-cell, start-serves, only-on, outset-on, outset-end, outset-stops}
 use Rattle.descend.proofs.reach.Statement.{statement}
 use Rattle.descend.proofs.reach.Tie as tie
 
-entry-requires : tie.Need-entry-requires
-entry-requires c κs =
-    let y = c .before .before .before .pre in
-    let R = ready-clear y in
-    look-cell (y .0) R (start-place (y .0) R)
+abbrev Inv-loop : tie.InvT-loop
+Inv-loop row lows marks₀ bs b left₀ i₀ marks left i = Outset row lows bs b marks₀ marks i left
 
-sub-low : tie.Need-sub-low
-sub-low c =
-    let y = c .before .before .before .before .pre in
-    let n = start-some (y .0) (ready-clear y) (y .1 .0 .1) (c .entry .ensures .0) in
-    omega arith
+abbrev μ-loop : tie.MeasureT-loop
+μ-loop row lows marks₀ bs b left₀ i₀ marks left i = length bs - i
 
-mark-requires : tie.Need-mark-requires
-mark-requires c κs =
-    let y = c .before .before .before .before .before .pre in
-    let R = ready-clear y in
-    mark-cell (y .0) R (start-fits (y .0) R (y .1 .0 .1) (c .before .entry .ensures .0))
+loop-holds : tie.Need-loop-holds Inv-loop μ-loop
+loop-holds c = outset (given (c .before .before .before .before .pre))
 
-returns : tie.Need-returns
+entry-requires : tie.Need-entry-requires Inv-loop μ-loop
+entry-requires c κs = start-cell (c .before .before .loop .inv) (c .before .loop-test .taken) (c .word-at .ensures .0)
+
+set-out-requires : tie.Need-set-out-requires Inv-loop μ-loop
+set-out-requires c κs =
+    let O = c .before .before .before .before .loop .inv in
+    let s = start-serves O (c .before .before .before .loop-test .taken) (c .before .before .word-at .ensures .0) (c .before .entry .ensures .0) in
+    (O .given .flat, (O .ready, (s, O .count)))
+
+same-length : tie.Need-same-length Inv-loop μ-loop
+same-length c = c .before .before .before .set-out .kept .1 .1 .0 ∙ c .before .before .before .before .before .before .before .before .loop .inv .size
+
+returns : tie.Need-returns Inv-loop μ-loop
 returns c =
-    let d = c .before .before .before .before in
-    let z = d .before .before .before .before .before .before in
-    let y = z .pre in
-    let R = ready-clear y in
-    let x = d .before .before .entry .ensures .0 in
-    let P = start-fits (y .0) R (y .1 .0 .1) x in
-    let low = start-low (y .0) R (y .1 .0 .1) x in
-    let e = d .mark .ensures in
-    let k = y .1 .1 .1 .1 in
-    let q = next-length _ _ (P .block .0) (P .block .1) (y .0) ∙ sym (c .before .degree-in .ensures .0) in
-    let h = copy-edges R P e (unmarked _ _ _ _ k) q (all-left _ _ _ _ k) in
-    let o = only-copies (y .0) _ _ low _ _ k (from-mark R P e low) in
-    (search needs, all-taken _ _ _ o 0 (omega arith) (λ l. absurd (omega arith)))
+    let y = c .before .before .before .set-out .ensures in
+    let o = only-on (c .before .before .before .before .before .before .before .before .loop .inv) (c .before .before .before .before .before .before .before .loop-test .taken) (c .before .before .before .before .before .before .word-at .ensures .0) (c .before .before .before .before .before .entry .ensures .0) _ (y .1 .0) in
+    (same-length c, outset-stops _ _ _ _ o (sym (c .if1 .taken) ∙ y .0))
 
-follow-requires : tie.Need-follow-requires
-follow-requires c κs =
-    let d = c .before .before .before .before .before in
-    let z = d .before .before .before .before .before .before in
-    let y = z .pre in
-    let R = ready-clear y in
-    let P = start-fits (y .0) R (y .1 .0 .1) (d .before .before .entry .ensures .0) in
-    let e = d .mark .ensures in
-    let k = y .1 .1 .1 .1 in
-    let q = next-length _ _ (P .block .0) (P .block .1) (y .0) ∙ sym (c .before .before .degree-in .ensures .0) in
-    let h = copy-edges R P e (unmarked _ _ _ _ k) q (all-left _ _ _ _ k) in
-    (y .0, (ready-on R P e, ((P .block .0, P .block .1, P .low), h)))
+loop-again : tie.Need-loop-again Inv-loop μ-loop
+loop-again c =
+    outset-on (c .before .before .before .before .before .before .before .before .loop .inv) (c .before .before .before .before .before .before .before .loop-test .taken) (c .before .before .before .before .before .before .word-at .ensures .0) (c .before .before .before .before .before .entry .ensures .0) (c .before .before .before .set-out .ensures)
+    (omega (arith, c .if1 .left)) (c .before .before .before .set-out .kept .1 .1 .0)
 
-returns-2 : tie.Need-returns-2
-returns-2 c =
-    let d = c .before .before .before .before .before .before .before .before in
-    let z = d .before .before .before .before .before .before in
-    let y = z .pre in
-    let R = ready-clear y in
-    let x = d .before .before .entry .ensures .0 in
-    let P = start-fits (y .0) R (y .1 .0 .1) x in
-    let low = start-low (y .0) R (y .1 .0 .1) x in
-    let f = c .before .before .follow .ensures in
-    let v = visited R P (d .mark .ensures) low (start-left (y .0) _) (f .1) in
-    let k = y .1 .1 .1 .1 in
-    let o = only-copies (y .0) _ _ low _ _ k (v .0) in
-    (search needs, all-taken _ _ _ o _ (f .0) (λ h. all-marked (y .0) _ _ low k (v .1 .0 h) (v .1 .1 h)))
+same-length-2 : tie.Need-same-length-2 Inv-loop μ-loop
+same-length-2 c = c .before .loop .inv .size
+
+returns-2 : tie.Need-returns-2 Inv-loop μ-loop
+returns-2 c = (c .before .loop .inv .size, outset-end (c .before .loop .inv) (omega (arith, c .loop-test .left)))
 
 pub reach-spec : {M : Type 1} → statement M
 reach-spec =
     tie.close
-    (tie.spec entry-requires sub-low mark-requires (λ c κs. search needs) (λ c. search needs) returns (λ c. search needs)
+    (tie.spec
+    Inv-loop
+    μ-loop
     (λ c. search needs)
-    follow-requires (λ c. search needs) returns-2)
+    loop-holds
+    (λ c κs. search needs)
+    entry-requires
+    set-out-requires
+    same-length
+    returns
+    (λ c. search needs)
+    (λ c. search needs)
+    loop-again
+    same-length-2
+    returns-2)

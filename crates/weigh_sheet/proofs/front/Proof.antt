@@ -16,31 +16,31 @@ returns c = sheet-refused _ _ (c .before .check-graph .ensures) (c .if1 .taken)
 read-header-requires : tie.Need-read-header-requires
 read-header-requires c κs = accepted _ (sym (c .before .check-graph .ensures) ∙ c .if1 .left) .long
 
-budget-requires : tie.Need-budget-requires
-budget-requires c κs = accepted _ (sym (c .before .before .check-graph .ensures) ∙ c .before .if1 .left) .long
+largest-requires : tie.Need-largest-requires
+largest-requires c κs = accepted _ (sym (c .before .before .check-graph .ensures) ∙ c .before .if1 .left) .long
 
 mul-if2 : tie.Need-mul-if2
 mul-if2 c =
     let z = c .before .before .before in
     let ok = sym (z .before .check-graph .ensures) ∙ z .if1 .left in
     let n = ap (λ (h : Header). h .blocks) (c .before .before .read-header .ensures .0) in
-    omega (arith, size-small _ (z .before .before .before .before .args .area .now) ok n (c .before .budget .ensures .0))
+    omega (arith, size-small _ (z .before .before .before .before .args .area .now) ok n (c .before .largest .ensures .0))
 
 returns-2 : tie.Need-returns-2
 returns-2 c =
     let r = c .before .before .before in
     let z = r .before in
     let ok = sym (z .before .check-graph .ensures) ∙ z .if1 .left in
-    area-refused _ _ ok (ap (λ (h : Header). h .blocks) (r .read-header .ensures .0)) (c .before .before .budget .ensures .0) (c .if2 .taken)
+    area-refused _ _ ok (ap (λ (h : Header). h .blocks) (r .read-header .ensures .0)) (c .before .before .largest .ensures .0) (c .if2 .taken)
 
 returns-3 : tie.Need-returns-3
 returns-3 c =
     let r = c .before .before .before in
     let z = r .before in
     let ok = sym (z .before .check-graph .ensures) ∙ z .if1 .left in
-    area-passes _ _ ok (ap (λ (h : Header). h .blocks) (r .read-header .ensures .0)) (c .before .before .budget .ensures .0) (c .if2 .left)
+    area-passes _ _ ok (ap (λ (h : Header). h .blocks) (r .read-header .ensures .0)) (c .before .before .largest .ensures .0) (c .if2 .left)
 
 pub front-spec : {M : Type 1} → statement M
 front-spec =
     tie.close
-    (tie.spec (λ c κs. search needs) returns read-header-requires budget-requires (λ c. search needs) mul-if2 returns-2 returns-3)
+    (tie.spec (λ c κs. search needs) returns read-header-requires largest-requires (λ c. search needs) mul-if2 returns-2 returns-3)

@@ -7,7 +7,7 @@ use Rattle.weigh_sheet.proofs.Answers.{row-ready, area-filled, start-ce
 use Rattle.weigh_sheet.proofs.weigh_into.Statement.{statement}
 use Rattle.weigh_sheet.proofs.weigh_into.Tie as tie
 
-module _ (b : tie.After-budget) where
+module _ (b : tie.After-largest) where
   abbrev decoded : tie.After-decode
   decoded = b .before .before .before
 
@@ -15,21 +15,21 @@ module _ (b : tie.After-budget) where
   start = decoded .before .before .before .before .before .before .before
 
 module _ (w : tie.After-weigh) where
-  abbrev budgeted : tie.After-budget
+  abbrev budgeted : tie.After-largest
   budgeted = w .before .before .before .before .before
 
 decode-requires : tie.Need-decode-requires
 decode-requires c κs = let z = c .before .before .before .before .before .before in (z .pre .0 .0, z .pre .1 .words)
 
-budget-requires : tie.Need-budget-requires
-budget-requires c κs = accepted _ (c .before .before .before .before .before .before .before .before .before .pre .0 .0) .long
+largest-requires : tie.Need-largest-requires
+largest-requires c κs = accepted _ (c .before .before .before .before .before .before .before .before .before .pre .0 .0) .long
 
 weigh-requires : tie.Need-weigh-requires
 weigh-requires c κs =
     let b = c .before .before .before .before in
     let z = start b in
     let D = decoded b .decode .ensures in
-    let q = b .budget .ensures .0 in
+    let q = b .largest .ensures .0 in
     (D .flat, (row-ready _ _ (z .pre .0 .0) (z .pre .0 .1) D q, (rw (D .blocks) (z .pre .1 .blocks), rw q (z .pre .1 .costs))))
 
 look-up-requires : tie.Need-look-up-requires
@@ -37,7 +37,7 @@ look-up-requires c κs =
     let w = c .before .before .before .before .before .before .before in
     let b = budgeted w in
     let z = start b in
-    start-cell _ _ (z .pre .0 .0) (z .pre .0 .1) (decoded b .decode .ensures) (b .budget .ensures .0) (w .weigh .ensures)
+    start-cell _ _ (z .pre .0 .0) (z .pre .0 .1) (decoded b .decode .ensures) (b .largest .ensures .0) (w .weigh .ensures)
 
 returns : tie.Need-returns
 returns c =
@@ -46,7 +46,7 @@ returns c =
     let b = budgeted w in
     let z = start b in
     let D = decoded b .decode .ensures in
-    let q = b .budget .ensures .0 in (
+    let q = b .largest .ensures .0 in (
       fits-not _ _ (k .result .low) (start-low _ _ (z .pre .0 .0) (z .pre .0 .1) D q (w .weigh .ensures) _ (k .ensures)) (c .if1 .taken),
       (area-filled _ _ (z .pre .0 .0) (z .pre .0 .1) D q (w .weigh .ensures), D),
     )
@@ -58,7 +58,7 @@ returns-2 c =
     let b = budgeted w in
     let z = start b in
     let D = decoded b .decode .ensures in
-    let q = b .budget .ensures .0 in (
+    let q = b .largest .ensures .0 in (
       fits _ _ (k .result .low) (start-low _ _ (z .pre .0 .0) (z .pre .0 .1) D q (w .weigh .ensures) _ (k .ensures)) (c .if1 .left),
       (area-filled _ _ (z .pre .0 .0) (z .pre .0 .1) D q (w .weigh .ensures), D),
     )
@@ -68,7 +68,7 @@ weigh-into-spec =
     tie.close
     (tie.spec
     decode-requires
-    budget-requires
+    largest-requires
     weigh-requires
     look-up-requires
     (λ c. search needs)
