@@ -1,4 +1,6 @@
 -- What the contracts below the public call cite; the public call cites formats alone.
--- Rests on formats.
+-- Rests on formats, record_check, entry_check.
 -- the clauses on the header and the length: badForm
 pub mod Form
+-- the clauses behind the header: badBehind
+pub mod Behind

@@ -1,20 +1,31 @@
-// A public call on a bounded sheet: rule 11, each word of the sheet looked at once.
-// Rests on words, headers, record_check; the promise is an equation with formats Rule11.
+// A public call on a bounded sheet of either version: rule 11, each word of the sheet looked at a few times at most.
+// Rests on words, headers, budgets, record_check, entry_check; the promise is an equation with formats Rule11.
 ghost use mathlib.Core.Path.{_≡_};
-ghost use mathlib.Core.Bool.{_&&_, _||_, not};
+ghost use mathlib.Core.Bool.{false, _&&_, _||_, not};
+ghost use Prim.Native.Nat.{suc, _≤_};
 ghost use lib.Dec.{eqb};
+ghost use lib.ListN.{length};
+ghost use Rattle.base.specs.Lists.{from};
 ghost use Rattle.base.specs.Checks.{outside};
-ghost use Rattle.formats.specs.Limits.{leastCopies, mostCopies, leastBoundedEdges, mostBoundedEdges};
-ghost use Rattle.formats.specs.BoundedSheet.{headingOf};
-ghost use Rattle.formats.specs.Rule11.{badTargetWords, boundedRefusal, Formed};
+ghost use Rattle.formats.specs.Limits.{leastWords, leastCopies, mostCopies, leastBoundedEdges, mostBoundedEdges};
+ghost use Rattle.formats.specs.Versions.{budgetCount, budgetsIn};
+ghost use Rattle.formats.specs.BoundedSheet.{headingOf, heading, entriesIn};
+ghost use Rattle.formats.specs.Rule11.{copiesOf, startCount, badTargetWords, boundedRefusal, Formed};
+ghost use Rattle.record_check.specs.Records.{badRecords};
+ghost use Rattle.entry_check.specs.Entries.{badEntryWords};
 ghost use Rattle.bounded_check.specs.Form.{badForm};
+ghost use Rattle.bounded_check.specs.Behind.{badBehind};
+use budgets::bad_budget;
+use budgets::bad_budgets;
+use entry_check::bad_entry_words;
+use headers::is_second;
+use headers::read_budgets;
 use headers::read_heading;
 use record_check::bad_copies;
 use words::LEAST_BOUNDED_EDGES;
 use words::LEAST_COPIES;
 use words::LEAST_WORDS;
 use words::MOST_BOUNDED_EDGES;
-use words::MOST_BUDGET;
 use words::MOST_COPIES;
 use words::field;
 use words::is_either_outside;
@@ -50,36 +61,93 @@ fn bad_form(s: &[u16]) -> bool
     if s.len() != h.records + 3 * h.copies + 2 * h.edges {
         return true;
     }
-    MOST_BUDGET < h.budget
+    if bad_budget(s) {
+        return true;
+    }
+    bad_budgets(s)
 }
 
-// THE TARGETS, behind any header: c copies and f edges from the word `at` on, and the budget b
+// THE START COPIES, THE TARGETS AND THE ENTRIES, behind any header: c copies and f edges from the word `at` on, and the largest budget b
 
-// A target that is neither 0 nor one of the copies 2 to n.
-fn is_stray(n: usize, t: usize) -> bool
-    ensures { λ r. ⌜ r ≡ (not (eqb t 0) && outside 2 n t) ⌝ }
+// The number of start copies, those of block 1, which are the first ones: the first copy of another block ends them.
+fn count_starts(s: &[u16], at: usize, c: usize, f: usize, b: usize) -> usize
+    requires { ⌜ Formed (headingOf at c f b) (now s) ⌝ }
+    requires { ⌜ badRecords (headingOf at c f b) (now s) ≡ false ⌝ }
+    ensures { λ k. ⌜ (k ≡ startCount (headingOf at c f b) (now (s .entry))) × (k ≤ c) ⌝ }
+{
+    let mut k = 0;
+    while k < c {
+        if field(s, at, 3, k + 1, 0) != 1 {
+            return k;
+        }
+        k += 1;
+    }
+    k
+}
+
+// A target that is neither 0 nor one of the copies k + 1 to n, those that are no start copies.
+fn is_stray(k: usize, n: usize, t: usize) -> bool
+    requires { ⌜ k ≤ mostCopies ⌝ }
+    ensures { λ r. ⌜ r ≡ (not (eqb t 0) && outside (suc k) n t) ⌝ }
 {
     if t == 0 {
         return false;
     }
-    is_outside(2, n, t)
+    is_outside(k + 1, n, t)
 }
 
-// One pass over the edges: a target is neither 0 nor one of the copies 2 to C.
-fn bad_targets(s: &[u16], at: usize, c: usize, f: usize, b: usize) -> bool
+// One pass over the edges: a target is neither 0 nor one of the copies k + 1 to C, where k are start copies.
+fn bad_targets(s: &[u16], at: usize, c: usize, f: usize, b: usize, k: usize) -> bool
     requires { ⌜ Formed (headingOf at c f b) (now s) ⌝ }
+    requires { ⌜ (k ≡ startCount (headingOf at c f b) (now s)) × (k ≤ c) ⌝ }
     ensures { λ r. ⌜ r ≡ badTargetWords (headingOf at c f b) (now (s .entry)) ⌝ }
 {
     let base = at + 3 * c;
     let mut e = 1;
     while e <= f {
         let t = field(s, base, 2, e, 0);
-        if is_stray(c, t) {
+        if is_stray(k, c, t) {
             return true;
         }
         e += 1;
     }
     false
+}
+
+// The entries are checked as a part of the sheet, beside the part that is the budgets; in the first version there is one, which is 1.
+fn bad_entries(s: &[u16], at: usize, c: usize, f: usize, b: usize, k: usize) -> bool
+    requires { ⌜ Formed (headingOf at c f b) (now s) ⌝ }
+    requires { ⌜ (copiesOf (headingOf at c f b) (now s) 1 ≡ from 1 k) × (k ≤ c) ⌝ }
+    requires { ⌜ (leastWords ≤ length (now s)) × (heading (now s) .records ≤ length (now s)) × (1 ≤ budgetCount (now s)) ⌝ }
+    ensures { λ r. ⌜ r ≡ badEntryWords (headingOf at c f b) (now (s .entry)) (budgetsIn (now (s .entry))) (entriesIn (now (s .entry))) ⌝ }
+{
+    let p = read_budgets(s);
+    let first = p.first;
+    let behind = first + p.count;
+    let bs = &s[first..behind];
+    if is_second(s) {
+        let end = behind + p.count;
+        let es = &s[behind..end];
+        return bad_entry_words(s, at, c, f, b, k, bs, es);
+    }
+    let one = [1u16];
+    bad_entry_words(s, at, c, f, b, k, bs, &one)
+}
+
+// The clauses behind the header: the copies and the order of the edges, then the targets, then the entries.
+fn bad_behind(s: &[u16], at: usize, c: usize, f: usize, b: usize) -> bool
+    requires { ⌜ Formed (headingOf at c f b) (now s) ⌝ }
+    requires { ⌜ (leastWords ≤ length (now s)) × (heading (now s) .records ≤ length (now s)) × (1 ≤ budgetCount (now s)) ⌝ }
+    ensures { λ r. ⌜ r ≡ badBehind (headingOf at c f b) (now (s .entry)) ⌝ }
+{
+    if bad_copies(s, at, c, f, b) {
+        return true;
+    }
+    let k = count_starts(s, at, c, f, b);
+    if bad_targets(s, at, c, f, b, k) {
+        return true;
+    }
+    bad_entries(s, at, c, f, b, k)
 }
 
 // 11 where a clause of rule 11 is broken, else 0.
@@ -90,10 +158,7 @@ pub fn check_bounded(s: &[u16]) -> u16
         return 11;
     }
     let h = read_heading(s);
-    if bad_copies(s, h.records, h.copies, h.edges, h.budget) {
-        return 11;
-    }
-    if bad_targets(s, h.records, h.copies, h.edges, h.budget) {
+    if bad_behind(s, h.records, h.copies, h.edges, h.largest) {
         return 11;
     }
     0

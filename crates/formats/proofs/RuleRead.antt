@@ -130,6 +130,51 @@ chosen-from zero a i x e = absurd (Option·none-ne-some x e)
 chosen-from (suc k) a zero x e = let p : a ≡ x = Option·some-injective a x e in omega arith
 chosen-from (suc k) a (suc i) x e = let p = chosen-from k (suc a) i x e in omega arith
 
+-- COPIES IN ORDER, of blocks from 1 on: those of block 1 are the first ones
+module _ (h : Heading) (s : List ℕ) (B : badBlocks h s ≡ false) (O : badCopyOrder h s ≡ false) where
+  in-order : (i : ℕ) → 1 ≤ i → suc i < 1 + h .copies → before (copyAt h s i) (copyAt h s (suc i)) ≡ true
+  unfolding badCopyOrder
+  in-order i p q =
+      let m = from-i (h .copies - 1) 1 i p (omega arith) in
+      let f = any-false (λ i. not (before (copyAt h s i) (copyAt h s (suc i)))) (from 1 (h .copies - 1)) O m in
+      not-false (before (copyAt h s i) (copyAt h s (suc i))) f
+
+  block-above : (i : ℕ) → 1 ≤ i → i ≤ h .copies → 1 ≤ blockAt h s i
+  unfolding badBlocks
+  block-above i p q =
+      inside-of 1 mostBlocks (blockAt h s i)
+      (any-false (λ i. outside 1 mostBlocks (blockAt h s i)) (from 1 (h .copies)) B (from-i (h .copies) 1 i p (omega arith))) .0
+
+  abbrev isStart : ℕ → Bool
+  isStart i = eqb (blockAt h s i) 1
+
+  pub ordered-front : copiesOf h s 1 ≡ from 1 (startCount h s)
+  unfolding copiesOf startCount copyAt
+  ordered-front = keep-front (λ i. eqb (blockAt h s i) 1) (h .copies) 1 (λ y p l e.
+      let b = block-above y p (omega arith) in
+      let z = eqb-true (blockAt h s (suc y)) 1 e in
+      eq-eqb (blockAt h s y) 1 (⊎-elim (λ q. omega arith) (λ q. omega (arith, q .0))
+      (before-cases (copyAt h s y) (copyAt h s (suc y)) (in-order y p (omega arith)))))
+
+  pub ordered-in : (i : ℕ) → 1 ≤ i → i ≤ h .copies → blockAt h s i ≡ 1 → i ≤ startCount h s
+  unfolding copiesOf
+  ordered-in i p q e =
+      let k = keep-i isStart (from 1 (h .copies)) (from-i (h .copies) 1 i p (omega arith)) (eq-eqb (blockAt h s i) 1 e) in
+      omega (arith, from-e (startCount h s) 1 i (subst (List·Memᴰ i) ordered-front k))
+
+  pub ordered-out : (i : ℕ) → 1 ≤ i → i ≤ startCount h s → (i ≤ h .copies) × (blockAt h s i ≡ 1)
+  unfolding copiesOf
+  ordered-out i p q =
+      let k = keep-e isStart (from 1 (h .copies)) (subst (List·Memᴰ i) (sym ordered-front) (from-i (startCount h s) 1 i p (omega arith))) in
+      (omega (arith, from-e (h .copies) 1 i (k .0)), eqb-true (blockAt h s i) 1 (k .1))
+
+  pub ordered-most : startCount h s ≤ h .copies
+  ordered-most = go (ℕ-discrete (startCount h s) 0)
+    where
+      go : Dec (startCount h s ≡ 0) → startCount h s ≤ h .copies
+      go (yes z) = omega arith
+      go (no z) = ordered-out (startCount h s) (omega arith) (omega arith) .0
+
 module _ (h : Heading) (s : List ℕ) (C : Ruled h s) where
   -- following the chains meets the edges 1 to F
   pub met-is : each (chainAt h s) (from 1 (h .copies)) ≡ from 1 (h .edges)
@@ -218,48 +263,17 @@ module _ (h : Heading) (s : List ℕ) (C : Ruled h s) where
           }
 
   -- the copies of block 1 are the first ones
-  in-order : (i : ℕ) → 1 ≤ i → suc i < 1 + h .copies → before (copyAt h s i) (copyAt h s (suc i)) ≡ true
-  unfolding badCopyOrder
-  in-order i p q =
-      let m = from-i (h .copies - 1) 1 i p (omega arith) in
-      let f = any-false (λ i. not (before (copyAt h s i) (copyAt h s (suc i)))) (from 1 (h .copies - 1)) (C .order) m in
-      not-false (before (copyAt h s i) (copyAt h s (suc i))) f
-
-  block-above : (i : ℕ) → 1 ≤ i → i ≤ h .copies → 1 ≤ blockAt h s i
-  unfolding badBlocks
-  block-above i p q =
-      inside-of 1 mostBlocks (blockAt h s i)
-      (any-false (λ i. outside 1 mostBlocks (blockAt h s i)) (from 1 (h .copies)) (C .blocks) (from-i (h .copies) 1 i p (omega arith))) .0
-
-  abbrev isStart : ℕ → Bool
-  isStart i = eqb (blockAt h s i) 1
-
   pub starts-front : copiesOf h s 1 ≡ from 1 (startCount h s)
-  unfolding copiesOf startCount copyAt
-  starts-front = keep-front (λ i. eqb (blockAt h s i) 1) (h .copies) 1 (λ y p l e.
-      let b = block-above y p (omega arith) in
-      let z = eqb-true (blockAt h s (suc y)) 1 e in
-      eq-eqb (blockAt h s y) 1 (⊎-elim (λ q. omega arith) (λ q. omega (arith, q .0))
-      (before-cases (copyAt h s y) (copyAt h s (suc y)) (in-order y p (omega arith)))))
+  starts-front = ordered-front h s (C .blocks) (C .order)
 
   pub start-in : (i : ℕ) → 1 ≤ i → i ≤ h .copies → blockAt h s i ≡ 1 → i ≤ startCount h s
-  unfolding copiesOf
-  start-in i p q e =
-      let k = keep-i isStart (from 1 (h .copies)) (from-i (h .copies) 1 i p (omega arith)) (eq-eqb (blockAt h s i) 1 e) in
-      omega (arith, from-e (startCount h s) 1 i (subst (List·Memᴰ i) starts-front k))
+  start-in = ordered-in h s (C .blocks) (C .order)
 
   pub start-out : (i : ℕ) → 1 ≤ i → i ≤ startCount h s → (i ≤ h .copies) × (blockAt h s i ≡ 1)
-  unfolding copiesOf
-  start-out i p q =
-      let k = keep-e isStart (from 1 (h .copies)) (subst (List·Memᴰ i) (sym starts-front) (from-i (startCount h s) 1 i p (omega arith))) in
-      (omega (arith, from-e (h .copies) 1 i (k .0)), eqb-true (blockAt h s i) 1 (k .1))
+  start-out = ordered-out h s (C .blocks) (C .order)
 
   pub starts-most : startCount h s ≤ h .copies
-  starts-most = go (ℕ-discrete (startCount h s) 0)
-    where
-      go : Dec (startCount h s ≡ 0) → startCount h s ≤ h .copies
-      go (yes z) = omega arith
-      go (no z) = start-out (startCount h s) (omega arith) (omega arith) .0
+  starts-most = ordered-most h s (C .blocks) (C .order)
 
   starts-fit : Starts (startCount h s) (rows h s)
   unfolding rowAt copyAt
@@ -309,7 +323,7 @@ module _ (h : Heading) (s : List ℕ) (C : Ruled h s) where
 
   rises : Rising (map (λ (r : Row). r .copy) (rows h s))
   unfolding rows
-  rises = rw (map-copy (from 1 (h .copies))) (rising-from (copyAt h s) (h .copies) 1 in-order)
+  rises = rw (map-copy (from 1 (h .copies))) (rising-from (copyAt h s) (h .copies) 1 (in-order h s (C .blocks) (C .order)))
 
   pub one-of : (v : ℕ) → notOneOf h s v ≡ false → Once v (rows h s)
   unfolding notOneOf

@@ -1,4 +1,4 @@
--- One pass over the copies: a copy that is wrong by itself or behind the one before it, the copies of blocks 1 and 2, and the edge order.
+-- One pass over the copies: a copy that is wrong by itself or behind the one before it, the copies of block 2, and the edge order.
 -- Rests on base Truth and Search, formats Rule11, copy_check BadCopy, Copies, Edges, specs Records.
 use mathlib.Core.Path.{_≡_, refl, sym, ap, _∙_}
 use mathlib.Core.Bool.{Bool, true, false, _&&_, _||_, not, or-assoc}
@@ -30,12 +30,17 @@ spared true b z o x i = refl
 spared false b true o x i = absurd (not-both (i refl) refl)
 spared false b false o x i = refl
 
+-- two tests in the other order
+swapped : (a b c : Bool) → (a || (b || c)) ≡ (b || (a || c))
+swapped true true c = refl
+swapped true false c = refl
+swapped false b c = refl
+
 -- the last test holds
-over-true : (a b c : Bool) → (a || (b || (c || true))) ≡ true
-over-true true b c = refl
-over-true false true c = refl
-over-true false false true = refl
-over-true false false false = refl
+over-true : (a b : Bool) → (a || (b || true)) ≡ true
+over-true true b = refl
+over-true false true = refl
+over-true false false = refl
 
 module _ (h : Heading) (s : List ℕ) where
   abbrev n : ℕ
@@ -54,7 +59,7 @@ module _ (h : Heading) (s : List ℕ) where
 
   -- what is wrong with a copy by itself and behind the one before it
   abbrev pub wrong : ℕ → Bool
-  wrong i = badCopy (h .budget) (copyBefore i) (copyAt h s i) (firstAt h s i)
+  wrong i = badCopy (h .largest) (copyBefore i) (copyAt h s i) (firstAt h s i)
 
   -- THE CLAUSES THAT GO COPY BY COPY
 
@@ -62,7 +67,7 @@ module _ (h : Heading) (s : List ℕ) where
   badBlock i = outside 1 mostBlocks (blockAt h s i)
 
   abbrev badLow : ℕ → Bool
-  badLow i = ltb (h .budget) (lowAt h s i)
+  badLow i = ltb (h .largest) (lowAt h s i)
 
   abbrev unordered : ℕ → Bool
   unordered i = not (before (copyBefore i) (copyAt h s i))
@@ -111,77 +116,69 @@ module _ (h : Heading) (s : List ℕ) where
       ∙ spared (badBlocks h s) (badLows h s) (unordered 1) (badCopyOrder h s) (badExit h s) (first-unordered l)
 
   -- the clauses on the records, by what their parts say
-  records-are : 1 ≤ n → (p q r t : Bool) → any wrong (from 1 n) ≡ p → notOneOf h s 1 ≡ q → notOneOf h s 2 ≡ r → badEdgeOrder h s ≡ t
-      → badRecords h s ≡ (p || (q || (r || t)))
+  records-are : 1 ≤ n → (p q r : Bool) → any wrong (from 1 n) ≡ p → notOneOf h s 2 ≡ q → badEdgeOrder h s ≡ r → badRecords h s ≡ (p || (q || r))
   unfolding badRecords
-  records-are l p q r t e f g k =
-      simp or-assoc at (ap (λ (b : Bool). b || (notOneOf h s 1 || (notOneOf h s 2 || badEdgeOrder h s))) (sym (wrong-are l)))
-      ∙ (λ i. e i || (f i || (g i || k i)))
+  records-are l p q r e f g =
+      ap (λ (b : Bool). badBlocks h s || (badLows h s || (badCopyOrder h s || b))) (swapped (notOneOf h s 2) (badExit h s) (badEdgeOrder h s))
+      ∙ simp or-assoc at (ap (λ (b : Bool). b || (notOneOf h s 2 || badEdgeOrder h s)) (sym (wrong-are l)))
+      ∙ (λ i. e i || (f i || g i))
 
-  -- THE LOOP is at the copy i, behind the copy (w, l); it has met k copies of block 1 and j of block 2, and the edges before e
-  pub record Checking (i w l k j e : ℕ) : Type 0 where
+  -- THE LOOP is at the copy i, behind the copy (w, l); it has met k copies of block 2 and the edges before e
+  pub record Checking (i w l k e : ℕ) : Type 0 where
     pub behind : copyOf w l ≡ copyBefore i
     pub search : Search (any wrong (from 1 n)) wrong n i
-    pub ones : Count (blockAt h s) 1 n i k
-    pub twos : Count (blockAt h s) 2 n i j
+    pub twos : Count (blockAt h s) 2 n i k
     pub edges : Following h s i e
 
-  pub begin : Checking 1 0 0 0 0 1
+  pub begin : Checking 1 0 0 0 1
   unfolding copyBefore
   begin = record {
     behind = refl;
     search = search.begin refl refl;
-    ones = count-begins (blockAt h s) 1 n;
     twos = count-begins (blockAt h s) 2 n;
     edges = edges.begin h s;
   }
 
-  module _ {i w l k j e : ℕ} (S : Checking i w l k j e) where
+  module _ {i w l k e : ℕ} (S : Checking i w l k e) where
     -- one copy, as its words were read
     module _ (m : i ≤ n) {v a first : ℕ} (p : v ≡ blockAt h s i) (q : a ≡ lowAt h s i) (r : first ≡ firstAt h s i) where
       here : copyOf v a ≡ copyAt h s i
       unfolding copyAt
       here = λ x. copyOf (p x) (q x)
 
-      wrong-is : {x b : Bool} → x ≡ badCopy (h .budget) (copyOf w l) (copyOf v a) first → x ≡ b → wrong i ≡ b
-      wrong-is z y = (λ x. badCopy (h .budget) (sym (S .behind) x) (sym here x) (sym r x)) ∙ sym z ∙ y
+      wrong-is : {x b : Bool} → x ≡ badCopy (h .largest) (copyOf w l) (copyOf v a) first → x ≡ b → wrong i ≡ b
+      wrong-is z y = (λ x. badCopy (h .largest) (sym (S .behind) x) (sym here x) (sym r x)) ∙ sym z ∙ y
 
-      pub bad-copy : {x : Bool} → x ≡ badCopy (h .budget) (copyOf w l) (copyOf v a) first → x ≡ true → true ≡ badRecords h s
+      pub bad-copy : {x : Bool} → x ≡ badCopy (h .largest) (copyOf w l) (copyOf v a) first → x ≡ true → true ≡ badRecords h s
       bad-copy z y =
-          sym (records-are (omega (arith, S .search .least)) true _ _ _ (sym (search.found (S .search) m (wrong-is z y))) refl refl refl)
+          sym (records-are (omega (arith, S .search .least)) true _ _ (sym (search.found (S .search) m (wrong-is z y))) refl refl)
 
       -- its chain
       module _ {end : ℕ} (N : Consecutive (nextAt h s) (h .edges) first e end) where
         pub bad-chain : end ≡ 0 → true ≡ badRecords h s
-        bad-chain z = sym (records-are (omega (arith, S .search .least)) _ _ _ true refl refl refl (edges.broken h s (S .edges) N m r z)
-            ∙ over-true (any wrong (from 1 n)) (notOneOf h s 1) (notOneOf h s 2))
+        bad-chain z = sym (records-are (omega (arith, S .search .least)) _ _ true refl refl (edges.broken h s (S .edges) N m r z)
+            ∙ over-true (any wrong (from 1 n)) (notOneOf h s 2))
 
-        pub goes-on : {x : Bool} → x ≡ badCopy (h .budget) (copyOf w l) (copyOf v a) first → x ≡ false → (end ≡ 0 → ⊥)
-            → {k′ j′ : ℕ} → (v ≡ 1 → k′ ≡ suc k) × ((v ≡ 1 → ⊥) → k′ ≡ k) → (v ≡ 2 → j′ ≡ suc j) × ((v ≡ 2 → ⊥) → j′ ≡ j)
-            → Checking (i + 1) v a k′ j′ end
-        goes-on z y u c d = record {
+        pub goes-on : {x : Bool} → x ≡ badCopy (h .largest) (copyOf w l) (copyOf v a) first → x ≡ false → (end ≡ 0 → ⊥)
+            → {k′ : ℕ} → (v ≡ 2 → k′ ≡ suc k) × ((v ≡ 2 → ⊥) → k′ ≡ k) → Checking (i + 1) v a k′ end
+        goes-on z y u c = record {
           behind = here ∙ next-before i (S .search .least);
           search = search.onward (S .search) m (wrong-is z y);
-          ones = counts (blockAt h s) 1 n (S .ones) m p c;
-          twos = counts (blockAt h s) 2 n (S .twos) m p d;
+          twos = counts (blockAt h s) 2 n (S .twos) m p c;
           edges = edges.onward h s (S .edges) N m r u;
         }
 
     -- all copies are passed
     module _ (m : n < i) where
-      not-one : {v c : ℕ} → Count (blockAt h s) v n i c → notOneOf h s v ≡ not (eqb c 1)
+      not-one : notOneOf h s 2 ≡ not (eqb k 1)
       unfolding notOneOf copiesOf
-      not-one {v} C = ap (λ (x : ℕ). not (eqb x 1)) (all-counted (blockAt h s) v n C m)
+      not-one = ap (λ (x : ℕ). not (eqb x 1)) (all-counted (blockAt h s) 2 n (S .twos) m)
 
-      at-end : 1 ≤ n → (p q : Bool) → not (eqb k 1) ≡ p → not (eqb j 1) ≡ q → badRecords h s ≡ (p || (q || not (eqb e (h .edges + 1))))
-      at-end l p q f g =
-          records-are l false p q _ (sym (search.none (S .search) m)) (not-one (S .ones) ∙ f) (not-one (S .twos) ∙ g) (edges.all-done h s (S .edges) m)
+      at-end : 1 ≤ n → (p : Bool) → not (eqb k 1) ≡ p → badRecords h s ≡ (p || not (eqb e (h .edges + 1)))
+      at-end l p f = records-are l false p _ (sym (search.none (S .search) m)) (not-one ∙ f) (edges.all-done h s (S .edges) m)
 
-      pub bad-ones : 1 ≤ n → (k ≡ 1 → ⊥) → true ≡ badRecords h s
-      bad-ones l z = sym (at-end l true _ (ap not (ne-eqb k 1 z)) refl)
+      pub bad-twos : 1 ≤ n → (k ≡ 1 → ⊥) → true ≡ badRecords h s
+      bad-twos l z = sym (at-end l true (ap not (ne-eqb k 1 z)))
 
-      pub bad-twos : 1 ≤ n → k ≡ 1 → (j ≡ 1 → ⊥) → true ≡ badRecords h s
-      bad-twos l y z = sym (at-end l false true (ap not (eq-eqb k 1 y)) (ap not (ne-eqb j 1 z)))
-
-      pub bad-end : 1 ≤ n → k ≡ 1 → j ≡ 1 → not (eqb e (h .edges + 1)) ≡ badRecords h s
-      bad-end l y z = sym (at-end l false false (ap not (eq-eqb k 1 y)) (ap not (eq-eqb j 1 z)))
+      pub bad-end : 1 ≤ n → k ≡ 1 → not (eqb e (h .edges + 1)) ≡ badRecords h s
+      bad-end l z = sym (at-end l false (ap not (eq-eqb k 1 z)))

@@ -9,4 +9,4 @@ use Rattle.formats.specs.Rule11.{notOneOf, badExit, badEdgeOrder}
 
 unfoldable pub badRecords : Heading → List ℕ → Bool
 badRecords h s =
-    badBlocks h s || (badLows h s || (badCopyOrder h s || (badExit h s || (notOneOf h s 1 || (notOneOf h s 2 || badEdgeOrder h s)))))
+    badBlocks h s || (badLows h s || (badCopyOrder h s || (notOneOf h s 2 || (badExit h s || badEdgeOrder h s))))

@@ -44,7 +44,7 @@ fn tally(count: usize, v: usize, w: usize) -> usize
     count
 }
 
-// One pass over the copies: a bad copy, not one copy each of blocks 1 and 2, or chains that do not meet the edges 1 to F in this order.
+// One pass over the copies: a bad copy, not one copy of block 2, or chains that do not meet the edges 1 to F in this order.
 pub fn bad_copies(s: &[u16], at: usize, c: usize, f: usize, b: usize) -> bool
     requires { ⌜ Formed (headingOf at c f b) (now s) ⌝ }
     ensures { λ r. ⌜ r ≡ badRecords (headingOf at c f b) (now (s .entry)) ⌝ }
@@ -52,7 +52,6 @@ pub fn bad_copies(s: &[u16], at: usize, c: usize, f: usize, b: usize) -> bool
     let base = at + 3 * c;
     let mut w = 0;
     let mut l = 0;
-    let mut ones = 0;
     let mut twos = 0;
     let mut e = 1;
     let mut i = 1;
@@ -67,15 +66,11 @@ pub fn bad_copies(s: &[u16], at: usize, c: usize, f: usize, b: usize) -> bool
         if end == 0 {
             return true;
         }
-        ones = tally(ones, v, 1);
         twos = tally(twos, v, 2);
         e = end;
         w = v;
         l = a;
         i += 1;
-    }
-    if ones != 1 {
-        return true;
     }
     if twos != 1 {
         return true;

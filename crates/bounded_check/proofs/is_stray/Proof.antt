@@ -1,7 +1,8 @@
 -- A target that is 0, or a copy that may be entered.
 -- Rests on nothing.
-use borrow.Author.Tests.{eq-eqb, ne-eqb}
 use borrow.Author.Needs.{needs}
+use native.Mathlib.Numerals.{add-one}
+use borrow.Author.Tests.{eq-eqb, ne-eqb}
 use Rattle.bounded_check.proofs.is_stray.Statement.{statement}
 use Rattle.bounded_check.proofs.is_stray.Tie as tie
 
@@ -9,7 +10,7 @@ returns : tie.Need-returns
 returns c = rw (eq-eqb _ 0 (c .if1 .taken))
 
 returns-2 : tie.Need-returns-2
-returns-2 c = rw (ne-eqb _ 0 (c .before .if1 .left)) (c .is-outside .ensures)
+returns-2 c = rw (ne-eqb _ 0 (c .before .if1 .left)) (rw add-one at (c .is-outside .ensures))
 
 pub is-stray-spec : {M : Type 1} → statement M
-is-stray-spec = tie.close (tie.spec returns (λ c κs. search needs) returns-2)
+is-stray-spec = tie.close (tie.spec returns (λ c. search needs) (λ c κs. search needs) returns-2)

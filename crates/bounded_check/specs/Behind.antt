@@ -1,0 +1,13 @@
+-- The clauses of rule 11 behind the header, for any header.
+-- Rests on formats Versions, BoundedSheet and Rule11, record_check Records, entry_check Entries.
+use mathlib.Core.Bool.{Bool, _||_}
+use mathlib.Core.List.{List}
+use Prim.Native.Nat.{ℕ}
+use Rattle.formats.specs.Versions.{budgetsIn}
+use Rattle.formats.specs.BoundedSheet.{Heading, entriesIn}
+use Rattle.formats.specs.Rule11.{badTargetWords}
+use Rattle.record_check.specs.Records.{badRecords}
+use Rattle.entry_check.specs.Entries.{badEntryWords}
+
+unfoldable pub badBehind : Heading → List ℕ → Bool
+badBehind h s = badRecords h s || (badTargetWords h s || badEntryWords h s (budgetsIn s) (entriesIn s))
