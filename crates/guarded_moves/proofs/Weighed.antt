@@ -40,11 +40,13 @@ module _ (w area : List ℕ) {a : ℕ} {after : List ℕ} (W : Weighs w area a a
       pub late : (c : ℕ) → beforeWeighing c ≡ false → after ≡ areaAfter (task w) c area
       late c g = f ∙ late-area w area c g
 
-      -- it is the table of the graph in the row
-      pub area-table : {row : List ℕ} → Decoded (header w) w row → {l : ℕ} → l ≡ largestIn w → Table (graphIn row) (blocksIn row) l after
+      -- it is the table of the sheet's graph, and of the graph in the row
+      pub sheet-table : {l : ℕ} → l ≡ largestIn w → Table (graph w) (header w .blocks) l after
       unfolding taskArea
-      area-table D e =
-          rw (D .same, D .blocks, e, f) (filled-table (graph w) (header w .blocks) (largestIn w) area (passed .room))
+      sheet-table e = rw (e, f) (filled-table (graph w) (header w .blocks) (largestIn w) area (passed .room))
+
+      pub area-table : {row : List ℕ} → Decoded (header w) w row → {l : ℕ} → l ≡ largestIn w → Table (graphIn row) (blocksIn row) l after
+      area-table D e = rw (D .same, D .blocks) (sheet-table e)
 
 -- THE BUDGET WITH THE NUMBER k, of m: t tells whether k is outside them
 module _ (w : List ℕ) (ok : sheetRefusal w ≡ 0) {m : ℕ} (e : m ≡ budgetCount w) (k : ℕ) {t : Bool} (g : t ≡ outside 1 m k) where

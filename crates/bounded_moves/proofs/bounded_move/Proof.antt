@@ -60,7 +60,8 @@ returns-3 c =
     let o = c .before in
     let u = o .before .before .before .before .before .before in
     let a = start u .args in
-    shape-refused (a .t .now) (walkOf (a .w)) (a .choice) (kept u) (o .before .before .before .before .read-heading .ensures .0) (o .before .before .before .exit-place .ensures .0)
+    shape-refused (a .t .now) (walkOf (a .w)) (a .choice) (kept u) (o .before .before .before .before .read-heading .ensures .0)
+    (o .before .before .before .exit-place .ensures .0)
     (o .before .before .budget .ensures .0) (o .before .most-moves .ensures) (o .out-of-shape .ensures) (c .if3 .taken)
 
 bounded-reply-requires : tie.Need-bounded-reply-requires
@@ -70,8 +71,10 @@ bounded-reply-requires c κs =
     let a = start u .args in
     let h = o .before .before .before .before .read-heading .ensures .0 in
     let b = o .before .before .budget .ensures .0 in
-    let few = small _ (kept u) (u .before .before .read-budgets .ensures .0 .1) _ (u .is-outside .ensures) (o .before .before .before .before .before .if2 .left) b in
-    let on = stands-on (a .t .now) (walkOf (a .w)) (a .choice) (kept u) h (o .before .before .before .exit-place .ensures .0) b (o .before .most-moves .ensures)
+    let few = small _ (kept u) (u .before .before .read-budgets .ensures .0 .1) _ (u .is-outside .ensures)
+    (o .before .before .before .before .before .if2 .left) b in
+    let on = stands-on (a .t .now) (walkOf (a .w)) (a .choice) (kept u) h (o .before .before .before .exit-place .ensures .0) b
+    (o .before .most-moves .ensures)
     (o .out-of-shape .ensures) few (c .if3 .left) in
     (read-ruled _ (kept u) h, on)
 
@@ -80,8 +83,10 @@ returns-4 c =
     let o = c .before .before in
     let u = o .before .before .before .before .before .before in
     let a = start u .args in
-    let p = listed _ (kept u) (u .before .before .read-budgets .ensures .0 .1) _ (u .is-outside .ensures) (o .before .before .before .before .before .if2 .left) in
-    walk-replies (a .t .now) (walkOf (a .w)) (a .choice) (kept u) (o .before .before .before .before .read-heading .ensures .0) (o .before .before .before .exit-place .ensures .0)
+    let p = listed _ (kept u) (u .before .before .read-budgets .ensures .0 .1) _ (u .is-outside .ensures)
+    (o .before .before .before .before .before .if2 .left) in
+    walk-replies (a .t .now) (walkOf (a .w)) (a .choice) (kept u) (o .before .before .before .before .read-heading .ensures .0)
+    (o .before .before .before .exit-place .ensures .0)
     (o .before .before .budget .ensures .0) (o .before .most-moves .ensures) (o .out-of-shape .ensures) p (c .before .if3 .left)
     (replyOf (c .bounded-reply .result)) (c .bounded-reply .ensures)
 

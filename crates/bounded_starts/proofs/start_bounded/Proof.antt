@@ -53,14 +53,16 @@ returns-3 : tie.Need-returns-3
 returns-3 c =
     let u = c .before .before .before .before in
     let a = start u .args in
-    stops (a .t .now) (walkOf (a .w)) (a .budget) (kept u) (tested u (c .before .before .before .if2 .left)) (c .before .before .entry .ensures .0) (c .before .if3 .taken)
+    stops (a .t .now) (walkOf (a .w)) (a .budget) (kept u) (tested u (c .before .before .before .if2 .left))
+    (c .before .before .entry .ensures .0) (c .before .if3 .taken)
     (c .stop .ensures)
 
 returns-4 : tie.Need-returns-4
 returns-4 c =
     let u = c .before .before .before .before in
     let a = start u .args in
-    goes (a .t .now) (walkOf (a .w)) (a .budget) (kept u) (tested u (c .before .before .before .if2 .left)) (c .before .before .entry .ensures .0) (c .before .if3 .left)
+    goes (a .t .now) (walkOf (a .w)) (a .budget) (kept u) (tested u (c .before .before .before .if2 .left))
+    (c .before .before .entry .ensures .0) (c .before .if3 .left)
     (c .set-out .ensures)
 
 pub start-bounded-spec : {M : Type 1} → statement M

@@ -54,17 +54,22 @@ returns-2 : tie.Need-returns-2
 returns-2 c =
     let u = c .before in
     let a = first u .args in
-    number-refused (a .s .now) (a .area .now) (walkOf (a .w)) (a .choice) (weighs (at u)) (u .before .before .before .if1 .left) (at u .weigh-into .ensures .1 .0)
+    number-refused (a .s .now) (a .area .now) (walkOf (a .w)) (a .choice) (weighs (at u)) (u .before .before .before .if1 .left)
+    (at u .weigh-into .ensures .1 .0)
     (tested u (c .if2 .taken))
 
 blocks-in-requires : tie.Need-blocks-in-requires
-blocks-in-requires c κs = omega (arith, c .before .before .before .before .before .before .before .before .before .before .before .weigh-into .ensures .1 .1 .flat .room)
+blocks-in-requires c κs = omega
+    (arith, c .before .before .before .before .before .before .before .before .before .before .before .weigh-into .ensures .1 .1 .flat .room)
 
 budget-requires : tie.Need-budget-requires
 budget-requires c κs =
     let u = c .before .before .before in
-    let A = accepted _ (first u .pre .0) in
-    ((A .long, A .there), counted _ (first u .pre .0) (u .before .before .read-budgets .ensures .0 .1) _ (u .is-outside .ensures) (c .before .before .if2 .left))
+    let A = accepted _ (first u .pre .0) in (
+      (A .long, A .there),
+      counted _ (first u .pre .0) (u .before .before .read-budgets .ensures .0 .1) _ (u .is-outside .ensures)
+          (c .before .before .if2 .left),
+    )
 
 returns-3 : tie.Need-returns-3
 returns-3 c =
@@ -88,8 +93,10 @@ monitor-reply-requires c κs =
     let b = o .before .budget .ensures .0 in
     let l = c .before .before .largest .ensures .0 in
     let table = area-table (a .s .now) (a .area .now) (weighs (at u)) z (e .0) (e .1) l in
-    let fits = within _ (first u .pre .0) (u .before .before .read-budgets .ensures .0 .1) _ (u .is-outside .ensures) (o .before .before .before .before .if2 .left) b l in
-    let shape = in-shape (a .s .now) (a .area .now) (walkOf (a .w)) (a .choice) (weighs (at u)) z (e .0) (e .1) (o .before .before .blocks-in .ensures .0) b
+    let fits = within _ (first u .pre .0) (u .before .before .read-budgets .ensures .0 .1) _ (u .is-outside .ensures)
+    (o .before .before .before .before .if2 .left) b l in
+    let shape = in-shape (a .s .now) (a .area .now) (walkOf (a .w)) (a .choice) (weighs (at u)) z (e .0) (e .1)
+    (o .before .before .blocks-in .ensures .0) b
     (o .out-of-shape .ensures) (c .before .before .before .if3 .left) in
     (e .1 .flat, (table, (fits .0, fits .1, shape)))
 
@@ -99,9 +106,11 @@ returns-4 c =
     let u = o .before .before .before .before .before in
     let a = first u .args in
     let e = at u .weigh-into .ensures .1 in
-    let p = listed _ (first u .pre .0) (u .before .before .read-budgets .ensures .0 .1) _ (u .is-outside .ensures) (o .before .before .before .before .if2 .left) in
+    let p = listed _ (first u .pre .0) (u .before .before .read-budgets .ensures .0 .1) _ (u .is-outside .ensures)
+    (o .before .before .before .before .if2 .left) in
     monitor-replies (a .s .now) (a .area .now) (walkOf (a .w)) (a .choice) (weighs (at u)) (u .before .before .before .if1 .left) (e .0) (e .1)
-    (o .before .before .blocks-in .ensures .0) (o .before .budget .ensures .0) (o .out-of-shape .ensures) p (c .before .before .before .before .if3 .left)
+    (o .before .before .blocks-in .ensures .0) (o .before .budget .ensures .0) (o .out-of-shape .ensures) p
+    (c .before .before .before .before .if3 .left)
     (replyOf (c .monitor-reply .result)) (c .monitor-reply .ensures)
 
 pub guard-spec : {M : Type 1} → statement M

@@ -24,7 +24,8 @@ use Rattle.guarded_moves.proofs.monitor_reply.Tie as tie
 returns : tie.Need-returns
 returns c =
     let z = c .before .before .before .before in
-    ended (z .pre .0 .laws) (z .args .b) (z .args .w .budget) (stateOf (z .args .w)) (z .args .choice) (ended-is (c .before .has-ended .ensures) (c .if1 .taken))
+    ended (z .pre .0 .laws) (z .args .b) (z .args .w .budget) (stateOf (z .args .w)) (z .args .choice)
+    (ended-is (c .before .has-ended .ensures) (c .if1 .taken))
 
 -- the walk has not ended, and the choice is tested
 module _ (c : tie.After-is-outside) where
