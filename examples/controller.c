@@ -1,16 +1,21 @@
-/* A controller in C: reads a graph sheet on standard input, builds its bounded sheet, and follows the choices given as arguments.
+/* A controller in C: reads a graph sheet of either version on standard input, builds its bounded sheet, starts a walk with one of its
+ * budgets, number 1 unless another is named, and follows the choices given as arguments.
  *
  *   rt staticlib gilstavo
  *   gcc -std=c99 -Wall -Wextra -Iinclude examples/controller.c target/staticlib/libgilstavo.a -o target/controller
  *   target/controller 1 2 1 1 1 < crates/listing/stdin
+ *   target/controller -b 2 1 2 1 1 1 < two_budgets.sheet
+ *
+ * A build or a start that is refused is told by its number and ends with status 1; a move that is refused leaves the walk as it was.
  */
 #include <errno.h>
 #include <stdio.h>
 #include <stdlib.h>
+#include <string.h>
 
 #include "gilstavo.h"
 
-#define MOST_SHEET 1284 /* one word more than the longest graph sheet has */
+#define MOST_SHEET 66820 /* one word more than any row that is not 3 by its length: 4, 65,535 budgets, 128 blocks, 512 edges */
 
 static uint16_t sheet[MOST_SHEET];
 static uint8_t area[GILSTAVO_MOST_AREA];
@@ -32,19 +37,36 @@ static int read_words(size_t *words) {
     return ferror(stdin) ? -1 : (int)(bytes % 2);
 }
 
-/* A choice is a number from 0 to 65,535; any other text is none. */
-static int read_choice(const char *text, uint16_t *choice) {
+/* A budget number or a choice is a number from 0 to 65,535; any other text is none, and ends the program. */
+static uint16_t read_number(const char *text) {
     char *end;
     errno = 0;
     unsigned long number = strtoul(text, &end, 10);
     if (text[0] < '0' || text[0] > '9' || *end != '\0' || errno != 0 || number > UINT16_MAX) {
-        return 0;
+        fprintf(stderr, "%s is no number from 0 to 65535\n", text);
+        exit(2);
     }
-    *choice = (uint16_t)number;
+    return (uint16_t)number;
+}
+
+static int refused(uint16_t answer) {
+    printf("refused %u\n", answer);
     return 1;
 }
 
+/* What a walk shows: the block in the copy record at its place. `first` is where the record of copy 1 begins. */
+static void show(uint16_t answer, const uint16_t *walk, size_t first) {
+    unsigned block = bounded[first + 3 * (size_t)(walk[GILSTAVO_PLACE] - 1)];
+    printf("answer %u, block %u, moves %u, %s\n", answer, block, walk[GILSTAVO_COUNT], ends[walk[GILSTAVO_END]]);
+}
+
 int main(int count, char **arguments) {
+    int next = 1;
+    uint16_t budget = 1;
+    if (count > 2 && strcmp(arguments[1], "-b") == 0) {
+        budget = read_number(arguments[2]);
+        next = 3;
+    }
     size_t words;
     int odd = read_words(&words);
     if (odd < 0) {
@@ -53,23 +75,34 @@ int main(int count, char **arguments) {
     }
     uint16_t answer = odd ? 1 : gilstavo_build(sheet, words, area, sizeof area, bounded, GILSTAVO_MOST_OUTPUT);
     if (answer != 0) {
-        printf("refused %u\n", answer);
-        return 1;
+        return refused(answer);
     }
-    size_t filled = 3 + 3 * (size_t)bounded[0] + 2 * (size_t)bounded[1];
-    printf("copies %u edges %u budget %u\n", bounded[0], bounded[1], bounded[2]);
 
-    uint16_t walk[3];
-    gilstavo_start(walk);
-    for (int i = 1; i < count; i++) {
-        uint16_t choice;
-        if (!read_choice(arguments[i], &choice)) {
-            fprintf(stderr, "%s is no number from 0 to 65535\n", arguments[i]);
-            return 2;
-        }
+    /* The header: C, F, B in the first version; 0, C, F, the number of budgets, the budgets and the entries in the second. */
+    int second = bounded[0] == 0;
+    const uint16_t *sizes = bounded + (second ? 1 : 0);
+    const uint16_t *budgets = bounded + (second ? 4 : 2);
+    size_t several = second ? bounded[3] : 1;
+    size_t first = second ? 4 + 2 * several : 3;
+    size_t filled = first + 3 * (size_t)sizes[0] + 2 * (size_t)sizes[1];
+    printf("copies %u edges %u budget", sizes[0], sizes[1]);
+    for (size_t i = 0; i < several; i++) {
+        printf(" %u", budgets[i]);
+    }
+    printf("\n");
+
+    uint16_t walk[GILSTAVO_WALK_WORDS];
+    answer = gilstavo_start_bounded(bounded, filled, walk, budget);
+    if (answer != 0) {
+        return refused(answer);
+    }
+    printf("budget number %u: ", budget);
+    show(answer, walk, first);
+    for (; next < count; next++) {
+        uint16_t choice = read_number(arguments[next]);
         answer = gilstavo_bounded_move(bounded, filled, walk, choice);
-        unsigned block = bounded[3 * walk[GILSTAVO_PLACE]];
-        printf("choice %u: answer %u, block %u, moves %u, %s\n", choice, answer, block, walk[GILSTAVO_COUNT], ends[walk[GILSTAVO_END]]);
+        printf("choice %u: ", choice);
+        show(answer, walk, first);
     }
     return 0;
 }

@@ -2,32 +2,41 @@
  *
  * `rt staticlib gilstavo` writes target/staticlib/libgilstavo.a (x86-64, System V calling convention).
  *
- * A sheet is a row of 16-bit words; records are numbered from 1, and 0 ends a chain (docs/FORMATS.md has an example of each).
- *   Graph sheet:   N, E, B; N block records of cost, first edge; E edge records of target block, next edge.
- *   Bounded sheet: C, F, B; C copy records of block, low, first edge; F edge records of target copy (0: the exception exit), next edge.
- *                  Copy 1 is the start, copy 2 the exit; the record of copy i begins at word 3 * i, so sheet[3 * i] is its block.
+ * A sheet is a row of 16-bit words; records are numbered from 1, and 0 ends a chain (docs/FORMATS.md has an example of each). Sheets have
+ * two versions: in the first a sheet has one budget, in the second, whose first word is 0, 1 to 4 of them (k), strictly rising, each at
+ * most 500. The records are the same, and a build makes a bounded sheet of the version of its graph sheet.
+ *   Graph sheet:   N, E, B, or 0, N, E, k, k budgets; then N block records of cost, first edge; E edge records of target block, next edge.
+ *   Bounded sheet: C, F, B, or 0, C, F, k, k budgets, k entries; then C copy records of block, low, first edge; F edge records of target
+ *                  copy (0: the exception exit), next edge.
+ *                  First version: copy 1 is the start, copy 2 the exit; the record of copy i begins at word 3 * i, so sheet[3 * i] is
+ *                  its block.
+ *                  Second version: an entry is the copy of block 1 with which its budget starts, or 0 where nothing fits it; equal ones
+ *                  are one copy. The copies of block 1 stand first, and the only copy of block 2, the exit, is behind them. The record of
+ *                  copy i begins at word 1 + 2k + 3 * i.
+ * Below, B is the budget of a sheet of the first version; in the second it is the largest budget, and for a walk the one that it has chosen.
  *
  * Every call returns, whatever the content and the length of what it is lent:
  *
  *   0        accepted
  *   1        fewer than 3 words
  *   2        N or E outside its limit (N 2 to 128, E 1 to 512)
- *   3        not exactly 3 + 2N + 2E words
- *   4        B above 500
+ *   3        not exactly 3 + 2N + 2E words, in the second version 4 + k + 2N + 2E; or a row that ends before its budgets
+ *   4        a budget above 500, of all that the sheet names
  *   5        block 1 or 2 with a cost, or another block with cost 0
  *   6        a target that is 0, 1 or above N
  *   7        following all chains meets an edge number above E, or an edge twice, or misses an edge
  *   8        the exit has a chain
- *   9        block 1 has no completion cost at or below B: nothing fits the budget
+ *   9        block 1 has no completion cost at or below B: nothing fits the budget, in the second version the largest
  *   10       more than 4,096 copies or more than 8,192 edges
  *   11       a bounded sheet that breaks a rule of its format
  *   21       work area shorter than N * (B + 1) bytes
- *   22       output row shorter than 3 + 3C + 2F words
+ *   22       output row shorter than 3 + 3C + 2F words, in the second version 4 + 2k + 3C + 2F
  *   31       choice 0 or beyond the place's successors
  *   32       the walk has ended
- *   33       walk out of shape; a block or a copy outside the sheet
+ *   33       walk out of shape; a block, a copy or a budget number outside the sheet
+ *   41       k outside 1 to 4, or budgets that do not rise strictly
  *
- * Where several hold, the first in the order that stands at the call is answered.
+ * Where several hold, the first in the order that stands at the call is answered; "1 to 8" stands for 1, 2, 3, 4, 41, 5, 6, 7, 8.
  *
  * What the caller owes: pointers that are not NULL (also for a length of 0) and aligned, to as many elements as the length says, and
  * no two of them to the same memory where one of them is written. Lengths are numbers of elements: words for uint16_t, bytes for uint8_t.
@@ -44,16 +53,18 @@ extern "C" {
 #endif
 
 /* The version of these declarations, which changes with every change of a format, a number or a call. */
-#define GILSTAVO_VERSION 1
+#define GILSTAVO_VERSION 2
 
 /* A work area of so many bytes is never answered 21, an output row of so many words never 22. */
 #define GILSTAVO_MOST_AREA 64128
-#define GILSTAVO_MOST_OUTPUT 28675
+#define GILSTAVO_MOST_OUTPUT 28684
 
-/* A walk is three words: place, count, end. Any other end is out of shape (33). */
+/* A walk is four words: place, count, end, budget number (from 1; 1 for a sheet of the first version). Any other end is out of shape (33). */
+#define GILSTAVO_WALK_WORDS 4
 #define GILSTAVO_PLACE 0
 #define GILSTAVO_COUNT 1
 #define GILSTAVO_END 2
+#define GILSTAVO_BUDGET 3
 #define GILSTAVO_GOING 0
 #define GILSTAVO_EXIT 1
 #define GILSTAVO_DIVERTED 2
@@ -70,9 +81,10 @@ uint16_t gilstavo_count_successors(const uint16_t *sheet, size_t sheet_words, ui
 uint16_t gilstavo_weigh(const uint16_t *sheet, size_t sheet_words, uint8_t *area, size_t area_bytes);
 
 /* Builds the bounded sheet of a graph sheet: 1 to 8, 21, 9, 10, 22, else 0.
- * Under 0 the first 3 + 3C + 2F words of the output row are the bounded sheet (C is its first word, F its second) and the rest keep
- * their content; under a refusal the whole output row keeps its content. The area is left as by gilstavo_weigh: filled under every
- * answer but 1 to 8 and 21. Takes at most 283 KB of stack (measured, docs/MEASUREMENTS.md). */
+ * Under 0 the first words of the output row are the bounded sheet, 3 + 3C + 2F of them (C is its first word, F its second), in the second
+ * version 4 + 2k + 3C + 2F (C is its second word, F its third, k its fourth), and the rest keep their content; under a refusal the whole
+ * output row keeps its content. The area is left as by gilstavo_weigh: filled under every answer but 1 to 8 and 21. Takes at most 283 KB
+ * of stack (measured, docs/MEASUREMENTS.md). */
 uint16_t gilstavo_build(const uint16_t *sheet, size_t sheet_words, uint8_t *area, size_t area_bytes, uint16_t *output,
                         size_t output_words);
 
@@ -84,17 +96,31 @@ uint16_t gilstavo_check_bounded(const uint16_t *sheet, size_t sheet_words);
  * and *size are 0. */
 uint16_t gilstavo_edge_words(const uint16_t *sheet, size_t sheet_words, uint16_t copy, size_t *start, size_t *size);
 
-/* Writes the starting walk: place 1, count 0, going. */
-void gilstavo_start(uint16_t walk[3]);
+/* Writes the starting walk: place 1, count 0, going, budget number 1. It is how every walk on a sheet of the first version starts; a walk
+ * with one of several budgets starts by one of the two calls behind it. */
+void gilstavo_start(uint16_t walk[4]);
+
+/* Starts a walk on a graph sheet with one of its budgets: 1 to 8, 21, 9, 33 (a budget number outside the sheet), else 0.
+ * Under 0 the walk is place 1, count 0, going, that number, or diverted where nothing fits that budget; under a refusal it keeps its
+ * content, and what it held before plays no part. The area is left as by gilstavo_weigh. */
+uint16_t gilstavo_start_guarded(const uint16_t *sheet, size_t sheet_words, uint8_t *area, size_t area_bytes, uint16_t walk[4],
+                                uint16_t budget);
+
+/* Starts a walk on a bounded sheet with one of its budgets: 11, 33 (a budget number outside the sheet), else 0.
+ * Under 0 the walk is the entry of that budget (copy 1 in the first version), count 0, going, that number; or place 1, count 0, diverted,
+ * that number where the entry is 0. Under a refusal it keeps its content, and what it held before plays no part. */
+uint16_t gilstavo_start_bounded(const uint16_t *sheet, size_t sheet_words, uint16_t walk[4], uint16_t budget);
 
 /* Moves a walk on a graph sheet by one choice, guarded by the completion costs: 1 to 8, 21, 9, 33, 32, 31, else 0.
- * Under 0 the walk is the walk after the move; under a refusal it keeps its content. The area is left as by gilstavo_weigh. */
-uint16_t gilstavo_guarded_move(const uint16_t *sheet, size_t sheet_words, uint8_t *area, size_t area_bytes, uint16_t walk[3],
-                                 uint16_t choice);
+ * Under 0 the walk is the walk after the move, with its budget number; under a refusal it keeps its content. The area is left as by
+ * gilstavo_weigh. Out of shape: a budget number or a place outside the sheet, end exit and place 2 not together, a count above B. */
+uint16_t gilstavo_guarded_move(const uint16_t *sheet, size_t sheet_words, uint8_t *area, size_t area_bytes, uint16_t walk[4],
+                               uint16_t choice);
 
 /* Moves a walk on a bounded sheet by one choice: 11, 33, 32, 31, else 0.
- * Under 0 the walk is the walk after the move; under a refusal it keeps its content. */
-uint16_t gilstavo_bounded_move(const uint16_t *sheet, size_t sheet_words, uint16_t walk[3], uint16_t choice);
+ * Under 0 the walk is the walk after the move, with its budget number; under a refusal it keeps its content. Out of shape: a budget number
+ * or a place outside the sheet, end exit and the exit's copy not together, a count above B while going or above B + 1 if ended. */
+uint16_t gilstavo_bounded_move(const uint16_t *sheet, size_t sheet_words, uint16_t walk[4], uint16_t choice);
 
 #ifdef __cplusplus
 }

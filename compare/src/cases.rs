@@ -1,15 +1,17 @@
-// One random case of each call, given to the library and to the reference; a difference is told as text.
+// One random case of each call, on sheets of both versions, given to the library and to the reference; a difference is told as text.
 // It rests on the wrapper's raw calls, and on the reference's random material and answers.
 
 use gilstavo::raw;
-use reference::random::{self, area_length, bounded_words, graph_words, length_near, Random, Size};
-use reference::{End, Monitor, Walk};
+use reference::random::{self, area_length, area_needed, bounded_words, graph_words, length_near, Random, Size};
+use reference::{copies_at, filled_words, End, Monitor, Walk};
 
 /// What is counted beside the differences.
 #[derive(Default)]
 pub struct Tally {
     pub calls: usize,
     pub built: usize,
+    /// How many of those are of the second version.
+    pub built_second: usize,
     pub moves: usize,
     pub differences: Vec<String>,
     /// How often each number was answered, by the library.
@@ -18,7 +20,7 @@ pub struct Tally {
 
 impl Tally {
     pub fn new() -> Tally {
-        Tally { answers: vec![0; 34], ..Tally::default() }
+        Tally { answers: vec![0; 42], ..Tally::default() }
     }
 
     /// Notes one call: its answer, and whether everything agrees.
@@ -26,11 +28,19 @@ impl Tally {
         self.calls += 1;
         match self.answers.get_mut(usize::from(answer)) {
             Some(count) => *count += 1,
-            None => self.differences.push(format!("{name}: unlisted answer {answer} on {sheet:?}")),
+            None => self.differences.push(format!("{name}: unlisted answer {answer} on {}", shown_words(sheet))),
         }
         if got != wanted {
-            self.differences.push(format!("{name} on {sheet:?}: {got:?}, the reference says {wanted:?}"));
+            self.differences.push(format!("{name} on {}: {got:?}, the reference says {wanted:?}", shown_words(sheet)));
         }
+    }
+}
+
+/// The words of a sheet, the first of them where there are very many.
+fn shown_words(sheet: &[u16]) -> String {
+    match sheet.len() {
+        0..=2000 => format!("{sheet:?}"),
+        length => format!("{:?} .. ({length} words)", &sheet[..40]),
     }
 }
 
@@ -43,38 +53,58 @@ fn junk_words(random: &mut Random, length: usize) -> Vec<u16> {
     (0..length).map(|_| random.draw() as u16).collect()
 }
 
-/// A graph sheet: valid, damaged, at the limits, or any words at all.
+/// Any words at all, behind a first word that makes them of the second version in half of the cases.
+fn any_words(random: &mut Random) -> Vec<u16> {
+    let length = random.below(40);
+    let mut words = junk_words(random, length);
+    if random.chance(50) {
+        words.insert(0, 0);
+    }
+    words
+}
+
+/// A graph sheet of either version: valid, damaged, at the limits, with very many budgets, or any words at all.
 pub fn graph(random: &mut Random) -> Vec<u16> {
     match random.below(100) {
-        0 => random::graph_near_the_limits(random),
-        1 => {
-            let length = random.below(40);
-            junk_words(random, length)
-        }
+        0 if random.chance(50) => random::graph_near_the_limits(random),
+        0 => random::second_graph_near_the_limits(random),
+        1 if random.chance(90) => any_words(random),
+        1 => random::many_budgets(random, 70000),
         2..=11 => graph_words(random, Size::Any, 70),
         12..=70 => graph_words(random, Size::Small, 70),
         _ => graph_words(random, Size::Tiny, 60),
     }
 }
 
-/// A walk of the reference as three words; what does not fit a word is cut to the largest.
-fn words_of(walk: Walk) -> [u16; 3] {
+/// A walk of the reference as four words; what does not fit a word is cut to the largest.
+fn words_of(walk: Walk) -> [u16; 4] {
     let end = match walk.end {
         End::Going => 0,
         End::Exit => 1,
         End::Diverted => 2,
     };
-    [walk.place.min(65535) as u16, walk.count.min(65535) as u16, end]
+    [walk.place.min(65535) as u16, walk.count.min(65535) as u16, end, walk.budget.min(65535) as u16]
 }
 
-/// The walk that three words stand for, with an end of 0, 1 or 2.
-fn walk_of(row: [u16; 3]) -> Walk {
+/// The walk that four words stand for, with an end of 0, 1 or 2.
+fn walk_of(row: [u16; 4]) -> Walk {
     let end = match row[2] {
         0 => End::Going,
         1 => End::Exit,
         _ => End::Diverted,
     };
-    Walk { place: u32::from(row[0]), count: u32::from(row[1]), end }
+    Walk { place: u32::from(row[0]), count: u32::from(row[1]), end, budget: u32::from(row[3]) }
+}
+
+/// Any four words, as a walk that is lent to a start may hold.
+fn junk_walk(random: &mut Random) -> [u16; 4] {
+    [random.draw() as u16, random.draw() as u16, random.below(5) as u16, random.below(7) as u16]
+}
+
+/// N or C as the sheet's version has it; 2 for a row without it.
+fn places(sheet: &[u16]) -> usize {
+    let at = usize::from(sheet.first() == Some(&0));
+    sheet.get(at).map_or(2, |places| usize::from(*places))
 }
 
 /// The check, a count, a weighing and a build of one graph sheet. Hands back the words of a build that was accepted.
@@ -82,7 +112,7 @@ pub fn build_case(random: &mut Random, tally: &mut Tally, sheet: &[u16]) -> Opti
     let answer = raw::check_graph(sheet);
     tally.call("check_graph", sheet, answer, answer, reference::check_graph(sheet));
 
-    let blocks = sheet.first().map_or(2, |blocks| usize::from(*blocks));
+    let blocks = places(sheet);
     let block = random.pick(&[0, 1, 2, 3, blocks, blocks + 1, 65535]).min(65535) as u16;
     let junk = random.draw() as u16;
     let mut count = junk;
@@ -114,24 +144,40 @@ pub fn build_case(random: &mut Random, tally: &mut Tally, sheet: &[u16]) -> Opti
         return None;
     }
     tally.built += 1;
-    let filled = 3 + 3 * usize::from(output[0]) + 2 * usize::from(output[1]);
-    Some(output[..filled].to_vec())
+    tally.built_second += usize::from(sheet[0] == 0);
+    Some(output[..filled_words(&output)].to_vec())
 }
 
-/// One list of choices, given to the monitor, to guarded moves and to bounded moves on a sheet that was built.
+/// One list of choices with one budget number of the sheet, given to the monitor, to guarded moves and to bounded moves on a sheet that
+/// was built. Both walks start by their start calls, and on a sheet of the first version in half of the cases as the starting walk.
 pub fn run_case(random: &mut Random, tally: &mut Tally, sheet: &[u16], bounded: &[u16]) {
-    let monitor = match Monitor::new(sheet) {
+    let number = random::inside_number(random, sheet);
+    let monitor = match Monitor::new(sheet, number) {
         Ok(monitor) => monitor,
         Err(_) => return,
     };
-    let budget = u32::from(bounded[2]);
-    let needed = usize::from(sheet[0]) * (usize::from(sheet[2]) + 1);
-    let mut state = Walk::start();
-    let (mut watched, mut walked) = ([0; 3], [0; 3]);
-    raw::start(&mut watched);
-    raw::start(&mut walked);
+    let budgets_at = if bounded[0] == 0 { 4 } else { 2 };
+    let budget = u32::from(bounded[budgets_at + number as usize - 1]);
+    let needed = area_needed(sheet);
+    let mut state = monitor.start();
+    let (mut watched, mut walked) = (junk_walk(random), junk_walk(random));
+    let block_of = |walked: [u16; 4]| {
+        let record = (copies_at(bounded) + 3 * usize::from(walked[0])).checked_sub(3);
+        record.and_then(|record| bounded.get(record)).map_or(0, |block| u32::from(*block))
+    };
+    if sheet[0] != 0 && random.chance(50) {
+        raw::start(&mut watched);
+        raw::start(&mut walked);
+    } else {
+        let mut area = junk_bytes(random, needed);
+        let answer = raw::start_guarded(sheet, &mut area, &mut watched, number as u16);
+        tally.call("the guarded start of a list", sheet, answer, (answer, walk_of(watched)), (0, state));
+        let answer = raw::start_bounded(bounded, &mut walked, number as u16);
+        let shown = Walk { place: block_of(walked), ..walk_of(walked) };
+        tally.call("the bounded start of a list", sheet, answer, (answer, shown), (0, state));
+    }
     let mut accepted = 0;
-    for choice in random::choices(random, sheet) {
+    for choice in random::choices(random, sheet, number) {
         let choice = choice.min(65535);
         let longer = random.below(3);
         let mut area = junk_bytes(random, needed + longer);
@@ -140,20 +186,19 @@ pub fn run_case(random: &mut Random, tally: &mut Tally, sheet: &[u16], bounded: 
         let by_copies = raw::bounded_move(bounded, &mut walked, choice as u16);
         state = after;
         accepted += u32::from(answer == 0);
-        let block = u32::from(bounded.get(3 * usize::from(walked[0])).copied().unwrap_or(0));
         tally.moves += 2;
         tally.call("a list of choices, guarded moves", sheet, by_graph, (by_graph, walk_of(watched)), (answer, state));
-        let shown = Walk { place: block, ..walk_of(walked) };
+        let shown = Walk { place: block_of(walked), ..walk_of(walked) };
         let wanted = Walk { count: accepted, ..state };
         tally.call("a list of choices, bounded moves", sheet, by_copies, (by_copies, shown), (answer, wanted));
         let most = if state.end == End::Going { budget } else { budget + 1 };
         if accepted > most {
-            tally.differences.push(format!("{accepted} moves accepted on {sheet:?}"));
+            tally.differences.push(format!("{accepted} moves accepted on {}", shown_words(sheet)));
         }
     }
 }
 
-/// A guarded move of any walk, on any graph sheet.
+/// A guarded start with any budget number and any words in the walk, and a guarded move of any walk, on any graph sheet.
 pub fn guarded_case(random: &mut Random, tally: &mut Tally, sheet: &[u16]) {
     let walk = walk_of(words_of(random::graph_walk(random, sheet)));
     let choice = random::graph_choice(random, sheet, walk).min(65535);
@@ -163,14 +208,23 @@ pub fn guarded_case(random: &mut Random, tally: &mut Tally, sheet: &[u16]) {
     let mut row = words_of(walk);
     let got = raw::guarded_move(sheet, &mut area, &mut row, choice as u16);
     tally.call("guarded_move", sheet, got, (got, row, area), (answer, words_of(after), area_after));
+
+    let number = random::budget_number(random, sheet).min(65535);
+    let size = area_length(random, sheet);
+    let mut area = junk_bytes(random, size);
+    let (answer, set, area_after) = reference::start_guarded(sheet, &area, number);
+    let before = junk_walk(random);
+    let mut row = before;
+    let got = raw::start_guarded(sheet, &mut area, &mut row, number as u16);
+    tally.call("start_guarded", sheet, got, (got, row, area), (answer, set.map_or(before, words_of), area_after));
 }
 
-/// Rule 11, the edge words of a copy, and a bounded move of any walk, on any bounded sheet.
+/// Rule 11, the edge words of a copy, a bounded move of any walk, and a bounded start with any budget number, on any bounded sheet.
 pub fn bounded_case(random: &mut Random, tally: &mut Tally, sheet: &[u16]) {
     let answer = raw::check_bounded(sheet);
     tally.call("check_bounded", sheet, answer, answer, reference::check_bounded(sheet));
 
-    let copies = sheet.first().map_or(2, |copies| usize::from(*copies));
+    let copies = places(sheet);
     let any = random.between(1, copies);
     let copy = random.pick(&[0, 1, 2, any, any, copies, copies + 1, 65535]).min(65535);
     let (answer, start, size) = raw::edge_words(sheet, copy as u16);
@@ -184,15 +238,27 @@ pub fn bounded_case(random: &mut Random, tally: &mut Tally, sheet: &[u16]) {
     let mut row = words_of(walk);
     let got = raw::bounded_move(sheet, &mut row, choice as u16);
     tally.call("bounded_move", sheet, got, (got, row), (answer, words_of(after)));
+
+    let number = random::budget_number(random, sheet).min(65535);
+    let (answer, set) = reference::start_bounded(sheet, number);
+    let before = junk_walk(random);
+    let mut row = before;
+    let got = raw::start_bounded(sheet, &mut row, number as u16);
+    tally.call("start_bounded", sheet, got, (got, row), (answer, set.map_or(before, words_of)));
 }
 
 /// Walks with an end that is none: refused 33 where the walk's turn comes, and nothing but the area is written.
 pub fn endless_case(random: &mut Random, tally: &mut Tally, sheet: &[u16], bounded: &[u16]) {
-    let row = [random.draw() as u16, random.draw() as u16, random.between(3, 65535) as u16];
+    // The other words are mostly those of a walk in shape.
+    let (far, any_end) = (random.below(65536), random.between(3, 65535));
+    let place = random.pick(&[1, 2, 3, far]) as u16;
+    let count = random.pick(&[0, 0, 1, far]) as u16;
+    let end = random.pick(&[3, 3, 4, any_end]) as u16;
+    let row = [place, count, end, random::budget_number(random, sheet).min(65535) as u16];
     let size = area_length(random, sheet);
     let mut area = junk_bytes(random, size);
     // A walk at no place is refused like one with no end.
-    let nowhere = Walk { place: 0, count: 0, end: End::Going };
+    let nowhere = Walk { place: 0, ..Walk::start() };
     let (answer, _, area_after) = reference::guarded_move(sheet, &area, nowhere, 1);
     let mut walk = row;
     let got = raw::guarded_move(sheet, &mut area, &mut walk, 1);
@@ -203,13 +269,10 @@ pub fn endless_case(random: &mut Random, tally: &mut Tally, sheet: &[u16], bound
     tally.call("bounded_move with no end", bounded, got, (got, walk), (answer, row));
 }
 
-/// A bounded sheet that need not come from a build: sound, damaged, or any words at all.
+/// A bounded sheet of either version that need not come from a build: sound, damaged, or any words at all.
 pub fn any_bounded(random: &mut Random) -> Vec<u16> {
     match random.below(100) {
-        0 => {
-            let length = random.below(40);
-            junk_words(random, length)
-        }
+        0 => any_words(random),
         1..=5 => bounded_words(random, Size::Any, 60),
         6..=50 => bounded_words(random, Size::Small, 50),
         _ => bounded_words(random, Size::Tiny, 50),

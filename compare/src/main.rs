@@ -28,7 +28,10 @@ fn main() -> ExitCode {
             break;
         }
     }
-    println!("graphs {count} seed {seed} calls {} built {} moves in lists {}", tally.calls, tally.built, tally.moves);
+    println!(
+        "graphs {count} seed {seed} calls {} built {}, {} of them of the second version, moves in lists {}",
+        tally.calls, tally.built, tally.built_second, tally.moves
+    );
     for (number, times) in tally.answers.iter().enumerate().filter(|(_, times)| **times > 0) {
         println!("answer {number}: {times}");
     }

@@ -1,5 +1,5 @@
 // A build as one would write it in Rust for speed, over plain rows: what the proved library is measured against beside the reference.
-// It rests on document 01 and the reference's check; the comparison holds its answers to the reference's.
+// It rests on document 01, request K2 of document 02 and the reference's check; the comparison holds its answers to the reference's.
 
 const MOST_COPIES: usize = 4096;
 const MOST_EDGES: usize = 8192;
@@ -8,6 +8,9 @@ const NO_COPY: u16 = u16::MAX;
 /// The graph of an accepted sheet: costs, and all targets in one row, those of block v from `first[v]` to `first[v + 1]`.
 struct Graph {
     blocks: usize,
+    second: bool,
+    budgets: Vec<usize>,
+    /// The largest budget.
     budget: usize,
     costs: Vec<usize>,
     first: Vec<usize>,
@@ -16,11 +19,17 @@ struct Graph {
 
 impl Graph {
     fn read(sheet: &[u16]) -> Graph {
-        let (blocks, edges, budget) = (sheet[0] as usize, sheet[1] as usize, sheet[2] as usize);
-        let (blocks_at, edges_at) = (3, 3 + 2 * blocks);
+        let second = sheet[0] == 0;
+        let sizes = usize::from(second);
+        let (blocks, edges) = (sheet[sizes] as usize, sheet[sizes + 1] as usize);
+        let blocks_at = sheet.len() - 2 * blocks - 2 * edges;
+        let edges_at = blocks_at + 2 * blocks;
+        let budgets: Vec<usize> = sheet[if second { 4 } else { 2 }..blocks_at].iter().map(|budget| *budget as usize).collect();
         let mut graph = Graph {
             blocks,
-            budget,
+            second,
+            budget: budgets[budgets.len() - 1],
+            budgets,
             costs: Vec::with_capacity(blocks + 1),
             first: Vec::with_capacity(blocks + 2),
             targets: Vec::with_capacity(edges),
@@ -78,13 +87,19 @@ fn lows(graph: &Graph, area: &[u8]) -> Vec<u16> {
     lows
 }
 
-/// Marks the copies reached from the start copy; false once there are too many copies or edges.
+/// Marks the copies reached from the start copies; none once there are too many copies or edges.
 fn reach(graph: &Graph, lows: &[u16], marks: &mut [bool]) -> Option<(usize, usize)> {
     let width = graph.budget + 1;
-    let start = lows[graph.budget] as usize;
-    marks[start] = true;
-    let mut waiting = vec![(1, start)];
-    let (mut copies, mut edges) = (1, 0);
+    let mut waiting = Vec::new();
+    let (mut copies, mut edges) = (0, 0);
+    for budget in &graph.budgets {
+        let start = lows[*budget];
+        if start != NO_COPY && !marks[start as usize] {
+            marks[start as usize] = true;
+            copies += 1;
+            waiting.push((1, start as usize));
+        }
+    }
     while let Some((block, low)) = waiting.pop() {
         let left = low - graph.costs[block];
         let targets = graph.targets(block);
@@ -107,8 +122,8 @@ fn reach(graph: &Graph, lows: &[u16], marks: &mut [bool]) -> Option<(usize, usiz
     Some((copies, edges))
 }
 
-/// The words of the bounded sheet.
-fn write(graph: &Graph, lows: &[u16], marks: &[bool], copies: usize, edges: usize, output: &mut [u16]) {
+/// The words of the bounded sheet, whose header has so many words.
+fn write(graph: &Graph, lows: &[u16], marks: &[bool], header: usize, copies: usize, edges: usize, output: &mut [u16]) {
     let width = graph.budget + 1;
     let mut numbers = vec![0u16; marks.len()];
     let mut number = 0;
@@ -118,10 +133,18 @@ fn write(graph: &Graph, lows: &[u16], marks: &[bool], copies: usize, edges: usiz
             numbers[cell] = number;
         }
     }
-    output[0] = copies as u16;
-    output[1] = edges as u16;
-    output[2] = graph.budget as u16;
-    let (mut at, mut edge_at, mut edge) = (3, 3 + 3 * copies, 1);
+    if graph.second {
+        let number = graph.budgets.len();
+        output[..4].copy_from_slice(&[0, copies as u16, edges as u16, number as u16]);
+        for (place, budget) in graph.budgets.iter().enumerate() {
+            let start = lows[*budget];
+            output[4 + place] = *budget as u16;
+            output[4 + number + place] = if start == NO_COPY { 0 } else { numbers[start as usize] };
+        }
+    } else {
+        output[..3].copy_from_slice(&[copies as u16, edges as u16, graph.budget as u16]);
+    }
+    let (mut at, mut edge_at, mut edge) = (header, header + 3 * copies, 1);
     for block in 1..=graph.blocks {
         let targets = graph.targets(block);
         for low in 0..width {
@@ -143,7 +166,7 @@ fn write(graph: &Graph, lows: &[u16], marks: &[bool], copies: usize, edges: usiz
     }
 }
 
-/// The build: answer, work area and output row as document 01 has them.
+/// The build: answer, work area and output row as documents 01 and 02 have them.
 pub fn build(sheet: &[u16], area: &mut [u8], output: &mut [u16]) -> u16 {
     let answer = reference::check_graph(sheet);
     if answer != 0 {
@@ -162,9 +185,10 @@ pub fn build(sheet: &[u16], area: &mut [u8], output: &mut [u16]) -> u16 {
     let Some((copies, edges)) = reach(&graph, &lows, &mut marks) else {
         return 10;
     };
-    if output.len() < 3 + 3 * copies + 2 * edges {
+    let header = if graph.second { 4 + 2 * graph.budgets.len() } else { 3 };
+    if output.len() < header + 3 * copies + 2 * edges {
         return 22;
     }
-    write(&graph, &lows, &marks, copies, edges, output);
+    write(&graph, &lows, &marks, header, copies, edges, output);
     0
 }

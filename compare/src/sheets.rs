@@ -1,8 +1,8 @@
 // Graph sheets that are measured: the largest graphs, the deepest descent, and families that grow by one number.
-// It rests on the reference's `graph_sheet` and its random numbers.
+// It rests on the reference's `graph_sheet` and `with_budgets`, and its random numbers.
 
-use reference::graph_sheet;
 use reference::random::Random;
+use reference::{graph_sheet, with_budgets};
 
 /// A graph of so many edges: the start's, then each block in turn gets one to the exit (3 in a hundred) or to any block from 3 on.
 fn spread(random: &mut Random, costs: Vec<u16>, start: &[u16], edges: usize, budget: u16) -> Vec<u16> {
@@ -42,6 +42,11 @@ pub fn largest() -> Vec<(&'static str, Vec<u16>)> {
         sheets.push((name, spread(&mut random, costs, &[3, 4, 5], 512, 500)));
     }
     sheets
+}
+
+/// The largest graphs in the second version with one budget of 500, and with four.
+pub fn with_one_and_four(sheet: &[u16]) -> [Vec<u16>; 2] {
+    [with_budgets(sheet, &[500]), with_budgets(sheet, &[125, 250, 375, 500])]
 }
 
 /// Two blocks, or three, with so many edges side by side as there may be.

@@ -1,13 +1,34 @@
 // A build tuned as one would in C: one pass of checks that decodes as it goes, rows that are kept between calls and cleared only as far as they
-// are used, completions as masks over blocks, marks as masks over lows. It rests on document 01; the comparison holds it to the reference.
+// are used, completions as masks over blocks, marks as masks over lows. It rests on document 01 and request K2 of document 02; the comparison
+// holds it to the reference.
 
 const MOST_BLOCKS: usize = 128;
 const MOST_EDGES: usize = 512;
 const MOST_BUDGET: usize = 500;
+const MOST_BUDGETS: usize = 4;
 const MOST_COPIES: usize = 4096;
 const MOST_BOUNDED_EDGES: usize = 8192;
 const WIDTH: usize = MOST_BUDGET + 1;
 const NONE: u16 = u16::MAX;
+
+/// What the header of a graph sheet says; `budgets` are words of the sheet.
+struct Header<'a> {
+    second: bool,
+    n: usize,
+    budgets: &'a [u16],
+}
+
+impl Header<'_> {
+    /// The number of costs that the table has for each block.
+    fn width(&self) -> usize {
+        self.budgets[self.budgets.len() - 1] as usize + 1
+    }
+
+    /// The number of words of the bounded sheet's header.
+    fn bounded_words(&self) -> usize {
+        if self.second { 4 + 2 * self.budgets.len() } else { 3 }
+    }
+}
 
 /// What a build works in, made once.
 pub struct Workspace {
@@ -39,22 +60,41 @@ impl Default for Workspace {
 }
 
 impl Workspace {
-    /// The conditions 1 to 8; under 0 the graph stands in flat rows.
-    fn check(&mut self, sheet: &[u16]) -> u16 {
+    /// The conditions 1 to 8 with 41; where none holds the graph stands in flat rows.
+    fn check<'a>(&mut self, sheet: &'a [u16]) -> Result<Header<'a>, u16> {
         if sheet.len() < 3 {
-            return 1;
+            return Err(1);
         }
-        let (n, m) = (sheet[0] as usize, sheet[1] as usize);
+        let second = sheet[0] == 0;
+        let sizes = usize::from(second);
+        let (n, m) = (sheet[sizes] as usize, sheet[sizes + 1] as usize);
         if !(2..=MOST_BLOCKS).contains(&n) || !(1..=MOST_EDGES).contains(&m) {
-            return 2;
+            return Err(2);
         }
-        if sheet.len() != 3 + 2 * n + 2 * m {
-            return 3;
+        let blocks_at = match (second, sheet.get(3)) {
+            (false, _) => 3,
+            (true, Some(number)) => 4 + *number as usize,
+            (true, None) => return Err(3),
+        };
+        if sheet.len() != blocks_at + 2 * n + 2 * m {
+            return Err(3);
         }
-        if sheet[2] as usize > MOST_BUDGET {
-            return 4;
+        let budgets = &sheet[if second { 4 } else { 2 }..blocks_at];
+        if budgets.iter().any(|budget| *budget as usize > MOST_BUDGET) {
+            return Err(4);
         }
-        let (blocks, edges) = sheet[3..].split_at(2 * n);
+        if !(1..=MOST_BUDGETS).contains(&budgets.len()) || budgets.windows(2).any(|pair| pair[0] >= pair[1]) {
+            return Err(41);
+        }
+        match self.decode(&sheet[blocks_at..], n, m) {
+            0 => Ok(Header { second, n, budgets }),
+            answer => Err(answer),
+        }
+    }
+
+    /// The conditions 5 to 8 on the records; under 0 the graph stands in flat rows.
+    fn decode(&mut self, records: &[u16], n: usize, m: usize) -> u16 {
+        let (blocks, edges) = records.split_at(2 * n);
         if blocks[0] != 0 || blocks[2] != 0 || blocks[4..].chunks_exact(2).any(|record| record[0] == 0) {
             return 5;
         }
@@ -127,13 +167,18 @@ impl Workspace {
     }
 
     /// Marks the copies that are reached; their numbers of copies and edges, or none once there are too many.
-    fn reach(&mut self, n: usize, width: usize) -> Option<(usize, usize)> {
-        self.marks[..=n].fill([0; 8]);
+    fn reach(&mut self, header: &Header, width: usize) -> Option<(usize, usize)> {
+        self.marks[..=header.n].fill([0; 8]);
         self.waiting.clear();
-        let start = self.lows[width - 1];
-        self.marks[1][start as usize / 64] |= 1 << (start % 64);
-        self.waiting.push((1, start));
-        let (mut copies, mut edges) = (1, 0);
+        let (mut copies, mut edges) = (0, 0);
+        for budget in header.budgets {
+            let start = self.lows[*budget as usize];
+            if start != NONE && self.marks[1][start as usize / 64] >> (start % 64) & 1 == 0 {
+                self.marks[1][start as usize / 64] |= 1 << (start % 64);
+                self.waiting.push((1, start));
+                copies += 1;
+            }
+        }
         while let Some((block, low)) = self.waiting.pop() {
             let left = low as usize - self.costs[block as usize];
             let targets = &self.targets[self.first[block as usize]..self.first[block as usize + 1]];
@@ -159,12 +204,10 @@ impl Workspace {
         Some((copies, edges))
     }
 
-    fn write(&mut self, n: usize, width: usize, copies: usize, edges: usize, output: &mut [u16]) {
-        output[0] = copies as u16;
-        output[1] = edges as u16;
-        output[2] = (width - 1) as u16;
-        let (mut at, mut edge, mut number) = (3, 1, 0);
-        for block in 1..=n {
+    fn write(&mut self, header: &Header, width: usize, copies: usize, edges: usize, output: &mut [u16]) {
+        let first = header.bounded_words();
+        let (mut at, mut edge, mut number) = (first, 1, 0);
+        for block in 1..=header.n {
             let degree = self.first[block + 1] - self.first[block];
             for (index, mut word) in self.marks[block].into_iter().enumerate() {
                 while word != 0 {
@@ -180,9 +223,20 @@ impl Workspace {
                 }
             }
         }
+        let several = header.budgets.len();
+        if header.second {
+            output[..4].copy_from_slice(&[0, copies as u16, edges as u16, several as u16]);
+            output[4..4 + several].copy_from_slice(header.budgets);
+            for (entry, budget) in output[4 + several..first].iter_mut().zip(header.budgets) {
+                let start = self.lows[*budget as usize];
+                *entry = if start == NONE { 0 } else { self.numbers[start as usize] };
+            }
+        } else {
+            output[..3].copy_from_slice(&[copies as u16, edges as u16, header.budgets[0]]);
+        }
         let mut edge = 1;
         for copy in 0..copies {
-            let (block, low) = (output[3 + 3 * copy] as usize, output[4 + 3 * copy] as usize);
+            let (block, low) = (output[first + 3 * copy] as usize, output[first + 3 * copy + 1] as usize);
             let targets = &self.targets[self.first[block]..self.first[block + 1]];
             let left = low - self.costs[block];
             for (place, target) in targets.iter().enumerate() {
@@ -196,13 +250,13 @@ impl Workspace {
         }
     }
 
-    /// The build: answer, work area and output row as document 01 has them.
+    /// The build: answer, work area and output row as documents 01 and 02 have them.
     pub fn build(&mut self, sheet: &[u16], area: &mut [u8], output: &mut [u16]) -> u16 {
-        let answer = self.check(sheet);
-        if answer != 0 {
-            return answer;
-        }
-        let (n, width) = (sheet[0] as usize, sheet[2] as usize + 1);
+        let header = match self.check(sheet) {
+            Ok(header) => header,
+            Err(answer) => return answer,
+        };
+        let (n, width) = (header.n, header.width());
         if area.len() < n * width {
             return 21;
         }
@@ -211,13 +265,13 @@ impl Workspace {
         if self.lows[width - 1] == NONE {
             return 9;
         }
-        let Some((copies, edges)) = self.reach(n, width) else {
+        let Some((copies, edges)) = self.reach(&header, width) else {
             return 10;
         };
-        if output.len() < 3 + 3 * copies + 2 * edges {
+        if output.len() < header.bounded_words() + 3 * copies + 2 * edges {
             return 22;
         }
-        self.write(n, width, copies, edges, output);
+        self.write(&header, width, copies, edges, output);
         0
     }
 }

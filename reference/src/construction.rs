@@ -1,5 +1,5 @@
 // Completion costs by rising cost, the copies reached by a work list, and the build of a bounded sheet.
-// It rests on graph.rs and the sections "Completions and copies", "Bounded sheet" and the order of refusals.
+// It rests on graph.rs, the sections "Completions and copies", "Bounded sheet" and the order of refusals, and request K2 of document 02.
 
 use crate::graph::Graph;
 use std::collections::{BTreeMap, BTreeSet};
@@ -7,7 +7,7 @@ use std::collections::{BTreeMap, BTreeSet};
 const MOST_COPIES: usize = 4096;
 const MOST_EDGES: usize = 8192;
 
-/// Which block has which completion cost up to B: byte (block - 1) * (B + 1) + cost is 1 or 0.
+/// Which block has which completion cost up to the largest budget B: byte (block - 1) * (B + 1) + cost is 1 or 0.
 pub(crate) struct Completions {
     budget: usize,
     bytes: Vec<u8>,
@@ -17,10 +17,10 @@ impl Completions {
     /// The dynamic program: every cost from 0 to B in turn, every block at that cost.
     pub(crate) fn of(graph: &Graph) -> Completions {
         let mut table =
-            Completions { budget: graph.budget, bytes: vec![0; graph.area_needed()] };
+            Completions { budget: graph.largest_budget(), bytes: vec![0; graph.area_needed()] };
         // The exit's only completion costs 0.
         table.put(2, 0);
-        for cost in 0..=graph.budget {
+        for cost in 0..=graph.largest_budget() {
             // A block above 2 costs at least 1, so it asks only about smaller completion costs.
             for block in 3..=graph.blocks {
                 if cost >= graph.cost(block) {
@@ -53,7 +53,7 @@ impl Completions {
     }
 
     /// The area's content once the table is written at its beginning. The area is long enough.
-    pub(crate) fn written_over(&self, area: &[u8]) -> Vec<u8> {
+    fn written_over(&self, area: &[u8]) -> Vec<u8> {
         let mut after = area.to_vec();
         after[..self.bytes.len()].copy_from_slice(&self.bytes);
         after
@@ -68,6 +68,35 @@ pub fn completion_table(words: &[u16]) -> Vec<u8> {
     }
 }
 
+/// A sheet that passed the checks of the sheet and of the work area, with its table and the area that begins with it.
+pub(crate) struct Weighed {
+    pub(crate) graph: Graph,
+    pub(crate) table: Completions,
+    pub(crate) area: Vec<u8>,
+}
+
+/// The checks that a build, a guarded move and a guarded start share: 1 to 8 with 41, 21, 9; a refusal comes with the area as it is left.
+pub(crate) fn weighed(words: &[u16], area: &[u8]) -> Result<Weighed, (u16, Vec<u8>)> {
+    // 1 to 8 with 41, then 21: the work area keeps its content.
+    let graph = match Graph::read(words) {
+        Ok(graph) => graph,
+        Err(answer) => return Err((answer, area.to_vec())),
+    };
+    if area.len() < graph.area_needed() {
+        return Err((21, area.to_vec()));
+    }
+
+    // From here on the work area begins with the table.
+    let table = Completions::of(&graph);
+    let area = table.written_over(area);
+
+    // 9: block 1 has no completion cost at or below the largest budget.
+    if table.largest(1, graph.largest_budget()).is_none() {
+        return Err((9, area));
+    }
+    Ok(Weighed { graph, table, area })
+}
+
 /// A copy: block and low. The order of pairs is the order of copies.
 type BlockCopy = (usize, usize);
 
@@ -79,15 +108,20 @@ fn target_copy(graph: &Graph, table: &Completions, from: BlockCopy, target: usiz
     table.largest(target, left).map(|target_low| (target, target_low))
 }
 
-/// All copies reached from the start copy and the number of their edges, or none once there are
+/// For each budget its start copy, or none where nothing fits it. Equal start copies are one copy.
+fn start_copies(graph: &Graph, table: &Completions) -> Vec<Option<BlockCopy>> {
+    graph.budgets.iter().map(|budget| table.largest(1, *budget).map(|low| (1, low))).collect()
+}
+
+/// All copies reached from these start copies and the number of their edges, or none once there are
 /// more than 4,096 copies or more than 8,192 edges.
 fn reached_copies(
     graph: &Graph,
     table: &Completions,
-    start: BlockCopy,
+    starts: &[Option<BlockCopy>],
 ) -> Option<(BTreeSet<BlockCopy>, usize)> {
-    let mut reached = BTreeSet::from([start]);
-    let mut waiting = vec![start];
+    let mut reached: BTreeSet<BlockCopy> = starts.iter().flatten().copied().collect();
+    let mut waiting: Vec<BlockCopy> = reached.iter().copied().collect();
     let mut edges = 0;
     while let Some(copy) = waiting.pop() {
         edges += graph.successors(copy.0).len();
@@ -108,16 +142,27 @@ fn reached_copies(
     Some((reached, edges))
 }
 
-/// The words of the bounded sheet of these copies.
+/// The words of the bounded sheet of these copies, of the same version as the graph sheet.
 fn bounded_words(
     graph: &Graph,
     table: &Completions,
+    starts: &[Option<BlockCopy>],
     copies: &BTreeSet<BlockCopy>,
     edges: usize,
 ) -> Vec<u16> {
     // Copies are numbered from 1 in rising order.
     let numbers: BTreeMap<BlockCopy, u16> = copies.iter().copied().zip(1..).collect();
-    let mut words = vec![copies.len() as u16, edges as u16, graph.budget as u16];
+    let mut words = vec![copies.len() as u16, edges as u16];
+    let budgets = graph.budgets.iter().map(|budget| *budget as u16);
+    if graph.second {
+        words.insert(0, 0);
+        words.push(graph.budgets.len() as u16);
+        words.extend(budgets);
+        // An entry word names the start copy of its budget, 0 if nothing fits.
+        words.extend(starts.iter().map(|start| start.map_or(0, |copy| numbers[&copy])));
+    } else {
+        words.extend(budgets);
+    }
     let mut edge_records = Vec::new();
     let mut edge = 0;
     for copy in copies {
@@ -146,46 +191,31 @@ pub struct Built {
     pub output: Vec<u16>,
 }
 
-/// The build: answers 1 to 8, 21, 9, 10, 22, 0, the first that holds.
+/// The build: answers 1 to 8 with 41, 21, 9, 10, 22, 0, the first that holds.
 pub fn build(words: &[u16], area: &[u8], output: &[u16]) -> Built {
-    let refused = |answer: u16, area: &[u8]| Built {
-        answer,
-        area: area.to_vec(),
-        output: output.to_vec(),
-    };
+    let refused = |answer: u16, area: Vec<u8>| Built { answer, area, output: output.to_vec() };
 
-    // 1 to 8, then 21: the work area keeps its content.
-    let graph = match Graph::read(words) {
-        Ok(graph) => graph,
-        Err(answer) => return refused(answer, area),
-    };
-    if area.len() < graph.area_needed() {
-        return refused(21, area);
-    }
-
-    // From here on the work area begins with the table.
-    let table = Completions::of(&graph);
-    let area = table.written_over(area);
-
-    // 9: block 1 has no completion cost at or below B.
-    let start = match table.largest(1, graph.budget) {
-        Some(low) => (1, low),
-        None => return refused(9, &area),
+    // 1 to 8 with 41, 21, 9.
+    let Weighed { graph, table, area } = match weighed(words, area) {
+        Ok(weighed) => weighed,
+        Err((answer, area)) => return refused(answer, area),
     };
 
     // 10: C above 4,096 or F above 8,192.
-    let (copies, edges) = match reached_copies(&graph, &table, start) {
+    let starts = start_copies(&graph, &table);
+    let (copies, edges) = match reached_copies(&graph, &table, &starts) {
         Some(reached) => reached,
-        None => return refused(10, &area),
+        None => return refused(10, area),
     };
 
-    // 22: output row shorter than 3 + 3C + 2F words.
-    if output.len() < 3 + 3 * copies.len() + 2 * edges {
-        return refused(22, &area);
+    // 22: output row shorter than 3 + 3C + 2F words, in the second version 4 + 2 * budgets + 3C + 2F.
+    let header_words = if graph.second { 4 + 2 * graph.budgets.len() } else { 3 };
+    if output.len() < header_words + 3 * copies.len() + 2 * edges {
+        return refused(22, area);
     }
 
     // An accepted build fills exactly its words.
-    let words = bounded_words(&graph, &table, &copies, edges);
+    let words = bounded_words(&graph, &table, &starts, &copies, edges);
     let mut output = output.to_vec();
     output[..words.len()].copy_from_slice(&words);
     Built { answer: 0, area, output }

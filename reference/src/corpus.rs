@@ -1,8 +1,10 @@
-// A corpus of graph sheets: the examples of document 01, a sheet for each refusal number, the worst sheets, and random ones.
-// It rests on graph.rs and random.rs. In a corpus file each sheet is preceded by a word with its length in words.
+// A corpus of graph sheets for each version: examples, a sheet for each refusal number, the worst sheets, and random ones.
+// It rests on graph.rs and random/. In a corpus file each sheet is preceded by a word with its length in words.
 
-use crate::graph::{graph_sheet, paper_example};
-use crate::random::{damaged_graph, graph_near_the_limits, valid_graph, Random, Size};
+use crate::graph::{budgets_sheet, graph_sheet, paper_example, with_budgets};
+use crate::random::{
+    damaged_graph, damaged_second_graph, graph_near_the_limits, many_budgets, second_graph, second_graph_near_the_limits, valid_graph, Random, Size,
+};
 
 /// Block 3 with a cost, its successors, and the start to it.
 pub(crate) fn one_block(cost: u16, successors: &[u16], budget: u16) -> Vec<u16> {
@@ -98,6 +100,135 @@ pub fn corpus(seed: u64, count: usize) -> Vec<Vec<u16>> {
             13 => damaged_graph(&mut random, Size::Any),
             14..=16 => damaged_graph(&mut random, Size::Small),
             _ => damaged_graph(&mut random, Size::Tiny),
+        });
+    }
+    sheets
+}
+
+// The second version.
+
+/// The paper's example, the loop and the least graphs with several budgets: two, equal start copies, four with nothing for the first,
+/// one, the largest that there may be.
+pub fn second_examples() -> Vec<Vec<u16>> {
+    let paper = |budgets: &[u16]| with_budgets(&paper_example(9), budgets);
+    let looping = |budgets: &[u16]| with_budgets(&one_block(3, &[3, 2], 7), budgets);
+    vec![
+        paper(&[5, 9]),
+        paper(&[9, 11]),
+        paper(&[4, 5, 9, 12]),
+        paper(&[9]),
+        paper(&[5, 7, 8, 500]),
+        paper(&[0, 1, 4]),
+        looping(&[2, 3, 7, 9]),
+        looping(&[7, 8]),
+        looping(&[0, 1, 2, 3]),
+        vec![0, 2, 1, 1, 0, 0, 1, 0, 0, 2, 0],
+        vec![0, 2, 1, 4, 0, 1, 2, 500, 0, 1, 0, 0, 2, 0],
+    ]
+}
+
+/// A row of 10 blocks, each looping and going on, with the budgets 415 to 418, the start with so many edges to the first and one to a
+/// block of so many edges to the exit: 4,096 copies and 8,180 edges besides the start's, four times, and that block's. With an extra
+/// block there is one copy more.
+pub fn second_at_the_limits(start_edges: usize, exit_edges: usize, extra_block: bool) -> Vec<u16> {
+    let mut costs = vec![1; 13];
+    costs[0] = 0;
+    costs[1] = 0;
+    let mut successors = vec![vec![3; start_edges], vec![]];
+    for block in 3..=12 {
+        successors.push(vec![block, if block == 12 { 2 } else { block + 1 }]);
+    }
+    successors[0].push(13);
+    successors.push(vec![2; exit_edges]);
+    if extra_block {
+        costs.push(1);
+        successors[12].push(14);
+        successors.push(vec![2]);
+    }
+    budgets_sheet(&costs, &successors, &[415, 416, 417, 418])
+}
+
+/// The worst sheets of the second version: those of the first that are refused 10 with four budgets, and sheets at C = 4,096 and
+/// F = 8,192 and one above each.
+pub fn second_worst() -> Vec<Vec<u16>> {
+    vec![
+        with_budgets(&widest(), &[0, 1, 499, 500]),
+        with_budgets(&most_copies(), &[0, 1, 499, 500]),
+        second_at_the_limits(1, 1, false),
+        second_at_the_limits(1, 4, false),
+        second_at_the_limits(1, 5, false),
+        second_at_the_limits(1, 1, true),
+    ]
+}
+
+/// A sheet of the second version for each refusal number of a build with buffers that are long enough: 1 to 4, 41, 5 to 10.
+pub fn second_refusals() -> Vec<Vec<u16>> {
+    vec![
+        vec![0, 2],
+        vec![0, 2, 513],
+        vec![0, 2, 1, 2, 0],
+        vec![0, 2, 1, 2, 9, 501, 0, 1, 0, 0, 2, 0],
+        vec![0, 2, 1, 2, 9, 9, 0, 1, 0, 0, 2, 0],
+        vec![0, 2, 1, 1, 0, 1, 1, 0, 0, 2, 0],
+        vec![0, 2, 1, 1, 0, 0, 1, 0, 0, 1, 0],
+        vec![0, 2, 1, 1, 0, 0, 1, 0, 0, 2, 1],
+        vec![0, 2, 1, 1, 0, 0, 0, 0, 1, 2, 0],
+        with_budgets(&paper_example(9), &[0, 3, 4]),
+        with_budgets(&widest(), &[3, 500]),
+    ]
+}
+
+/// Hostile headers: rows that end in the header or before it does, no budget, five and more, equal and falling ones, one above 500
+/// among many, and the least sheet of the first version with 0 in place of N.
+pub fn hostile_headers() -> Vec<Vec<u16>> {
+    let records = [0, 1, 0, 0, 2, 0];
+    let with = |budgets: &[u16]| [&[0, 2, 1, budgets.len() as u16], budgets, &records].concat();
+    let many = |number: u16, last: u16| with(&(1..=number).map(|place| if place == number { last } else { place.min(500) }).collect::<Vec<u16>>());
+    vec![
+        vec![0],
+        vec![0, 2],
+        vec![0, 2, 1],
+        vec![0, 1, 1],
+        vec![0, 2, 1, 0],
+        vec![0, 2, 1, 1],
+        vec![0, 2, 1, 65535],
+        vec![0, 2, 1, 3, 5, 6],
+        vec![0, 2, 1, 65535, 0, 1, 0, 0, 2, 0],
+        with(&[]),
+        with(&[1, 2, 3, 4, 5]),
+        with(&[1, 2, 3, 4, 501]),
+        with(&[1, 1]),
+        with(&[2, 1]),
+        with(&[1, 2, 3, 3]),
+        with(&[501, 1]),
+        with(&[1, 65535]),
+        many(1279, 1),
+        many(1279, 501),
+        many(65525, 500),
+        many(65525, 501),
+        [vec![0, 1, 0], records.to_vec()].concat(),
+    ]
+}
+
+/// One word more than the longest graph sheet has: 4 + 4 + 2 * 128 + 2 * 512.
+const LONGER_SHEET: usize = 1289;
+
+/// The corpus of the second version: the named sheets, then `count` random ones, valid and damaged, none of more than 1,289 words.
+pub fn second_corpus(seed: u64, count: usize) -> Vec<Vec<u16>> {
+    let mut sheets = second_examples();
+    sheets.extend(second_refusals());
+    sheets.extend(hostile_headers().into_iter().filter(|sheet| sheet.len() <= LONGER_SHEET));
+    let mut random = Random::new(seed);
+    for index in 0..count {
+        sheets.push(match index % 20 {
+            0 if index % 100 == 0 => second_graph_near_the_limits(&mut random),
+            0 => second_graph(&mut random, Size::Any),
+            1..=7 => second_graph(&mut random, Size::Small),
+            8..=11 => second_graph(&mut random, Size::Tiny),
+            12 => many_budgets(&mut random, LONGER_SHEET),
+            13 => damaged_second_graph(&mut random, Size::Any),
+            14..=16 => damaged_second_graph(&mut random, Size::Small),
+            _ => damaged_second_graph(&mut random, Size::Tiny),
         });
     }
     sheets

@@ -1,10 +1,15 @@
-// The graph sheet: its checks (refusals 1 to 8), the graph read from it, the number of successors.
-// It rests on the section "Graph sheet" and rows 1 to 8 of the first table of refusals.
+// The graph sheet in both versions: its checks (refusals 1 to 8 with 41), the graph read from it, the number of successors.
+// It rests on header.rs, the section "Graph sheet" and rows 1 to 8 of the first table of refusals, and request K2 of document 02.
+
+use crate::header;
 
 /// A graph read from an accepted sheet. Blocks are numbered from 1; place 0 of each row is unused.
 pub(crate) struct Graph {
     pub(crate) blocks: usize,
-    pub(crate) budget: usize,
+    /// Whether the sheet is of the second version.
+    pub(crate) second: bool,
+    /// The budgets, 1 to 4 of them, strictly rising; one for a sheet of the first version.
+    pub(crate) budgets: Vec<usize>,
     costs: Vec<usize>,
     successors: Vec<Vec<usize>>,
 }
@@ -16,10 +21,10 @@ impl Graph {
         if answer != 0 {
             return Err(answer);
         }
-        let sheet = Sheet { words };
+        let sheet = Sheet::of(words);
         let mut costs = vec![0];
         let mut successors = vec![Vec::new()];
-        for block in 1..=sheet.blocks() {
+        for block in 1..=sheet.blocks {
             costs.push(sheet.cost(block));
             let mut targets = Vec::new();
             let mut edge = sheet.first_edge(block);
@@ -29,7 +34,18 @@ impl Graph {
             }
             successors.push(targets);
         }
-        Ok(Graph { blocks: sheet.blocks(), budget: sheet.budget(), costs, successors })
+        let budgets = header::budgets(words).unwrap_or_default();
+        Ok(Graph { blocks: sheet.blocks, second: header::is_second(words), budgets, costs, successors })
+    }
+
+    /// The largest budget: the last, since they rise.
+    pub(crate) fn largest_budget(&self) -> usize {
+        self.budgets[self.budgets.len() - 1]
+    }
+
+    /// The budget with this number, or none for a number outside the sheet.
+    pub(crate) fn budget(&self, number: u32) -> Option<usize> {
+        header::budget_numbered(&self.budgets, number)
     }
 
     /// The cost of a block in 1..=N.
@@ -42,66 +58,74 @@ impl Graph {
         &self.successors[block]
     }
 
-    /// The number of bytes a work area must have.
+    /// The number of bytes a work area must have: it goes by the largest budget.
     pub(crate) fn area_needed(&self) -> usize {
-        self.blocks * (self.budget + 1)
+        self.blocks * (self.largest_budget() + 1)
     }
 }
 
 /// The words of a sheet by their place in the records. Only used once the length is known to fit.
 struct Sheet<'a> {
     words: &'a [u16],
+    blocks: usize,
+    /// Where the block records begin.
+    records: usize,
 }
 
-impl Sheet<'_> {
-    fn blocks(&self) -> usize {
-        usize::from(self.words[0])
-    }
-    fn edges(&self) -> usize {
-        usize::from(self.words[1])
-    }
-    fn budget(&self) -> usize {
-        usize::from(self.words[2])
+impl<'a> Sheet<'a> {
+    fn of(words: &'a [u16]) -> Sheet<'a> {
+        let (blocks, edges) = header::sizes(words);
+        Sheet { words, blocks, records: words.len() - 2 * blocks - 2 * edges }
     }
     fn cost(&self, block: usize) -> usize {
-        usize::from(self.words[3 + 2 * (block - 1)])
+        usize::from(self.words[self.records + 2 * (block - 1)])
     }
     fn first_edge(&self, block: usize) -> usize {
-        usize::from(self.words[3 + 2 * (block - 1) + 1])
+        usize::from(self.words[self.records + 2 * (block - 1) + 1])
     }
     fn target(&self, edge: usize) -> usize {
-        usize::from(self.words[3 + 2 * self.blocks() + 2 * (edge - 1)])
+        usize::from(self.words[self.records + 2 * self.blocks + 2 * (edge - 1)])
     }
     fn next_edge(&self, edge: usize) -> usize {
-        usize::from(self.words[3 + 2 * self.blocks() + 2 * (edge - 1) + 1])
+        usize::from(self.words[self.records + 2 * self.blocks + 2 * (edge - 1) + 1])
     }
 }
 
-/// 0 for an accepted graph sheet, else the first refusal in the order 1 to 8.
+/// 0 for an accepted graph sheet, else the first refusal in the order 1, 2, 3, 4, 41, 5, 6, 7, 8.
 pub fn check_graph(words: &[u16]) -> u16 {
-    // 1: fewer than 3 words.
+    // 1: fewer than 3 words, in both versions.
     if words.len() < 3 {
         return 1;
     }
-    let sheet = Sheet { words };
-    let (blocks, edges) = (sheet.blocks(), sheet.edges());
 
     // 2: N or E outside its limit.
+    let (blocks, edges) = header::sizes(words);
     if blocks < 2 || blocks > 128 || edges < 1 || edges > 512 {
         return 2;
     }
 
-    // 3: not exactly 3 + 2N + 2E words.
-    if words.len() != 3 + 2 * blocks + 2 * edges {
+    // 3: not exactly 3 + 2N + 2E words, in the second version 4 + budgets + 2N + 2E; or a row that ends before its budgets.
+    let budgets = match header::budgets(words) {
+        Some(budgets) => budgets,
+        None => return 3,
+    };
+    let header_words = if header::is_second(words) { 4 + budgets.len() } else { 3 };
+    if words.len() != header_words + 2 * blocks + 2 * edges {
         return 3;
     }
 
-    // 4: B above 500.
-    if sheet.budget() > 500 {
+    // 4: a budget above 500, of all that the sheet names.
+    if budgets.iter().any(|budget| *budget > 500) {
         return 4;
     }
 
+    // 41: a number of budgets outside 1 to 4, or budgets that do not rise strictly.
+    if !header::are_few_and_rising(&budgets) {
+        return 41;
+    }
+
     // 5: block 1 or 2 with a cost, or another block with cost 0.
+    let sheet = Sheet::of(words);
     for block in 1..=blocks {
         let trusted = block == 1 || block == 2;
         let free = sheet.cost(block) == 0;
@@ -143,7 +167,7 @@ pub fn check_graph(words: &[u16]) -> u16 {
     0
 }
 
-/// The answer and the number of successors of a block: 1 to 8, then 33 for a block outside 1..=N.
+/// The answer and the number of successors of a block: 1 to 8 with 41, then 33 for a block outside 1..=N.
 pub fn successor_count(words: &[u16], block: u16) -> (u16, u16) {
     let graph = match Graph::read(words) {
         Ok(graph) => graph,
@@ -157,10 +181,9 @@ pub fn successor_count(words: &[u16], block: u16) -> (u16, u16) {
     (0, graph.successors(block).len() as u16)
 }
 
-/// A graph sheet written from costs and successors (place 0 is block 1), edges numbered in order.
-pub fn graph_sheet(costs: &[u16], successors: &[Vec<u16>], budget: u16) -> Vec<u16> {
-    let edges: usize = successors.iter().map(|targets| targets.len()).sum();
-    let mut words = vec![costs.len() as u16, edges as u16, budget];
+/// The records of a graph written from costs and successors (place 0 is block 1), edges numbered in order, and their number.
+fn records(costs: &[u16], successors: &[Vec<u16>]) -> (usize, Vec<u16>) {
+    let mut words = Vec::new();
     let mut edge_records = Vec::new();
     let mut number: usize = 0;
     for (index, cost) in costs.iter().enumerate() {
@@ -176,7 +199,26 @@ pub fn graph_sheet(costs: &[u16], successors: &[Vec<u16>], budget: u16) -> Vec<u
         }
     }
     words.extend(edge_records);
-    words
+    (number, words)
+}
+
+/// A graph sheet of the first version, from costs, successors and a budget.
+pub fn graph_sheet(costs: &[u16], successors: &[Vec<u16>], budget: u16) -> Vec<u16> {
+    let (edges, records) = records(costs, successors);
+    [vec![costs.len() as u16, edges as u16, budget], records].concat()
+}
+
+/// A graph sheet of the second version, from costs, successors and budgets, however many.
+pub fn budgets_sheet(costs: &[u16], successors: &[Vec<u16>], budgets: &[u16]) -> Vec<u16> {
+    let (edges, records) = records(costs, successors);
+    [vec![0, costs.len() as u16, edges as u16, budgets.len() as u16], budgets.to_vec(), records].concat()
+}
+
+/// The same graph with these budgets, as a sheet of the second version. The sheet is accepted, of either version.
+pub fn with_budgets(words: &[u16], budgets: &[u16]) -> Vec<u16> {
+    let (blocks, edges) = header::sizes(words);
+    let records = &words[words.len() - 2 * blocks - 2 * edges..];
+    [&[0, blocks as u16, edges as u16, budgets.len() as u16], budgets, records].concat()
 }
 
 /// The worked example of document 01 with this budget.

@@ -1,4 +1,4 @@
-// The reference implementation of document 01 and of the report of document 02: graph sheets, bounded sheets, walks, the monitor.
+// The reference implementation of document 01 and of requests K1 and K2 of document 02: graph sheets, bounded sheets, walks, the monitor, reports.
 // It rests on the standard library alone; every public function is total.
 
 mod bounded;
@@ -7,14 +7,15 @@ mod cheapest;
 mod construction;
 pub mod corpus;
 mod graph;
+mod header;
 mod listing;
 pub mod random;
 mod report;
 mod walk;
 
-pub use bounded::{check_bounded, edge_words};
+pub use bounded::{check_bounded, copies_at, edge_words, filled_words};
 pub use construction::{build, completion_table, Built};
-pub use graph::{check_graph, graph_sheet, paper_example, successor_count};
-pub use listing::listing;
+pub use graph::{budgets_sheet, check_graph, graph_sheet, paper_example, successor_count, with_budgets};
+pub use listing::{listing, LARGEST_AREA, LARGEST_OUTPUT};
 pub use report::{catalogue_sheets, report, unused_blocks};
-pub use walk::{bounded_move, monitor_step, guarded_move, End, Monitor, Walk};
+pub use walk::{bounded_move, guarded_move, monitor_step, start_bounded, start_guarded, End, Monitor, Walk};

@@ -1,30 +1,34 @@
-// The command line tool: a listing, a build, a report, random cases, corpora and catalogues of sheets; see USAGE.
+// The command line tool: a listing, a build, a report, random cases, corpora and catalogues of sheets, sheets from text; see USAGE.
 // It rests on the library and its random material; it prints what the library answers.
 
 use reference::{catalogue, corpus};
 use reference::random::{self, area_length, bounded_words, graph_words, length_near, Random, Size};
 use reference::{
-    bounded_move, build, check_bounded, check_graph, edge_words, listing, guarded_move, report,
-    successor_count, End, Monitor, Walk,
+    bounded_move, build, check_bounded, check_graph, copies_at, edge_words, filled_words, guarded_move, listing, report, start_bounded,
+    start_guarded, successor_count, End, Monitor, Walk, LARGEST_AREA, LARGEST_OUTPUT,
 };
 use std::io::{self, BufWriter, Read, Write};
 use std::process::ExitCode;
 
 const USAGE: &str = "usage: reference listing < sheet
        reference build < decimal words
+       reference encode < decimal words > sheet
        reference report < catalogue
        reference corpus SEED COUNT > sheets
+       reference second_corpus SEED COUNT > sheets
        reference worst > sheets
+       reference second_worst > sheets
        reference listings < sheets
        reference catalogue SEED COUNT > catalogue
        reference catalogue_example > catalogue
+       reference catalogue_second > catalogue
        reference cases SEED COUNT tiny|small|any [KIND]";
 
 /// A kind of case: its name, and what makes one as fields of a line.
 type Kind = (&'static str, fn(&mut Random, Size) -> Vec<String>);
 
 /// The kinds in the order in which they take turns.
-const KINDS: [Kind; 9] = [
+const KINDS: [Kind; 11] = [
     ("graph", graph_case),
     ("count", count_case),
     ("build", build_case),
@@ -32,6 +36,8 @@ const KINDS: [Kind; 9] = [
     ("guarded", guarded_case),
     ("move", move_case),
     ("part", part_case),
+    ("start_guarded", start_guarded_case),
+    ("start_bounded", start_bounded_case),
     ("run", run_case),
     ("report", report_case),
 ];
@@ -42,13 +48,17 @@ fn main() -> ExitCode {
     let done = match arguments[..] {
         ["listing"] => print_listing(),
         ["build"] => print_build(),
+        ["encode"] => print_encoded(),
         ["report"] => print_report(),
         ["listings"] => print_listings(),
-        ["worst"] => io::stdout().lock().write_all(&corpus::encoded(&corpus::worst())),
-        ["corpus", seed, count] => match (seed.parse(), count.parse()) {
-            (Ok(seed), Ok(count)) => io::stdout().lock().write_all(&corpus::encoded(&corpus::corpus(seed, count))),
+        ["worst"] => print_sheets(corpus::worst()),
+        ["second_worst"] => print_sheets(corpus::second_worst()),
+        ["corpus", seed, count] | ["second_corpus", seed, count] => match (seed.parse(), count.parse()) {
+            (Ok(seed), Ok(count)) if arguments[0] == "corpus" => print_sheets(corpus::corpus(seed, count)),
+            (Ok(seed), Ok(count)) => print_sheets(corpus::second_corpus(seed, count)),
             _ => return usage(),
         },
+        ["catalogue_second"] => io::stdout().lock().write_all(&catalogue::second_example()),
         ["catalogue_example"] => io::stdout().lock().write_all(&catalogue::example()),
         ["catalogue", seed, count] => match (seed.parse(), count.parse()) {
             (Ok(seed), Ok(count)) => io::stdout().lock().write_all(&catalogue::catalogue(seed, count)),
@@ -110,14 +120,29 @@ fn print_listings() -> io::Result<()> {
     out.flush()
 }
 
-/// A build with buffers that are long enough: the answer, and the words that it fills.
-fn print_build() -> io::Result<()> {
+fn print_sheets(sheets: Vec<Vec<u16>>) -> io::Result<()> {
+    io::stdout().lock().write_all(&corpus::encoded(&sheets))
+}
+
+/// The decimal words of a text on standard input; `#` to the end of a line is a comment. What is no word is an error.
+fn read_text() -> io::Result<Vec<u16>> {
     let mut text = String::new();
     io::stdin().lock().read_to_string(&mut text)?;
-    let words: Vec<u16> = text.split_whitespace().filter_map(|word| word.parse().ok()).collect();
-    let built = build(&words, &[0; 128 * 501], &[0; 3 + 3 * 4096 + 2 * 8192]);
+    let words = text.lines().flat_map(|line| line.split('#').next().unwrap_or("").split_whitespace());
+    words.map(|word| word.parse().map_err(|error| io::Error::other(format!("{word}: {error}")))).collect()
+}
+
+/// The words of a text as a file has them: two bytes each, the lower first.
+fn print_encoded() -> io::Result<()> {
+    let bytes: Vec<u8> = read_text()?.iter().flat_map(|word| word.to_le_bytes()).collect();
+    io::stdout().lock().write_all(&bytes)
+}
+
+/// A build with buffers that are long enough: the answer, and the words that it fills.
+fn print_build() -> io::Result<()> {
+    let built = build(&read_text()?, &[0; LARGEST_AREA], &[0; LARGEST_OUTPUT]);
     let filled = match built.answer {
-        0 => 3 + 3 * usize::from(built.output[0]) + 2 * usize::from(built.output[1]),
+        0 => filled_words(&built.output),
         _ => 0,
     };
     println!("{}\t{}", built.answer, row(&built.output[..filled]));
@@ -149,7 +174,7 @@ fn walk_text(walk: Walk) -> String {
         End::Exit => 1,
         End::Diverted => 2,
     };
-    format!("{} {} {}", walk.place, walk.count, end)
+    format!("{} {} {} {}", walk.place, walk.count, end, walk.budget)
 }
 
 fn graph_case(random: &mut Random, size: Size) -> Vec<String> {
@@ -157,9 +182,15 @@ fn graph_case(random: &mut Random, size: Size) -> Vec<String> {
     vec!["graph".into(), row(&words), check_graph(&words).to_string()]
 }
 
+/// N or C as the sheet's version has it; 3 for a row without it.
+fn places(words: &[u16]) -> usize {
+    let at = usize::from(words.first() == Some(&0));
+    words.get(at).map_or(3, |places| usize::from(*places))
+}
+
 fn count_case(random: &mut Random, size: Size) -> Vec<String> {
     let words = graph_words(random, size, 70);
-    let blocks = words.first().map_or(3, |blocks| usize::from(*blocks));
+    let blocks = places(&words);
     let block = match random.below(10) {
         0 => random.pick(&[0, blocks + 1, 65535]).min(65535),
         1 => 2,
@@ -194,12 +225,26 @@ fn bounded_case(random: &mut Random, size: Size) -> Vec<String> {
     vec!["bounded".into(), row(&words), check_bounded(&words).to_string()]
 }
 
-fn guarded_case(random: &mut Random, size: Size) -> Vec<String> {
-    let words = if random.chance(70) {
+/// A graph sheet of either version whose build is accepted.
+fn buildable(random: &mut Random, size: Size) -> Vec<u16> {
+    if random.chance(40) {
         random::buildable_graph(random, size)
     } else {
+        random::buildable_second_graph(random, size)
+    }
+}
+
+/// Mostly a graph sheet whose build is accepted.
+fn mostly_buildable(random: &mut Random, size: Size) -> Vec<u16> {
+    if random.chance(70) {
+        buildable(random, size)
+    } else {
         graph_words(random, size, 60)
-    };
+    }
+}
+
+fn guarded_case(random: &mut Random, size: Size) -> Vec<String> {
+    let words = mostly_buildable(random, size);
     let area_length = area_length(random, &words);
     let walk = random::graph_walk(random, &words);
     let choice = random::graph_choice(random, &words, walk);
@@ -233,7 +278,7 @@ fn move_case(random: &mut Random, size: Size) -> Vec<String> {
 
 fn part_case(random: &mut Random, size: Size) -> Vec<String> {
     let words = bounded_words(random, size, 80);
-    let copies = words.first().map_or(3, |copies| usize::from(*copies));
+    let copies = places(&words);
     let copy = match random.below(8) {
         0 => random.pick(&[0, copies + 1, 65535, 65537, 4294967295]),
         1 => 2,
@@ -243,35 +288,73 @@ fn part_case(random: &mut Random, size: Size) -> Vec<String> {
     vec!["part".into(), row(&words), copy.to_string(), answer.to_string(), row(&part)]
 }
 
-/// Whether the build of this graph sheet is accepted and has a target 0.
-fn has_diverted_edge(words: &[u16]) -> bool {
-    let sheet = random::built_words(words).unwrap_or_default();
-    let copies = sheet.first().map_or(0, |copies| usize::from(*copies));
-    sheet.iter().skip(3 + 3 * copies).step_by(2).any(|target| *target == 0)
+/// The start of a guarded walk: the walk that is lent, the budget number, and what the call leaves.
+fn start_guarded_case(random: &mut Random, size: Size) -> Vec<String> {
+    let words = mostly_buildable(random, size);
+    let area_length = area_length(random, &words);
+    let walk = random::graph_walk(random, &words);
+    let number = random::budget_number(random, &words);
+    let (answer, set, area) = start_guarded(&words, &vec![7; area_length], number);
+    vec![
+        "start_guarded".into(),
+        row(&words),
+        area_length.to_string(),
+        walk_text(walk),
+        number.to_string(),
+        answer.to_string(),
+        walk_text(set.unwrap_or(walk)),
+        row(&area),
+    ]
 }
 
+fn start_bounded_case(random: &mut Random, size: Size) -> Vec<String> {
+    let words = bounded_words(random, size, 80);
+    let walk = random::bounded_walk(random, &words);
+    let number = random::budget_number(random, &words);
+    let (answer, set) = start_bounded(&words, number);
+    vec![
+        "start_bounded".into(),
+        row(&words),
+        walk_text(walk),
+        number.to_string(),
+        answer.to_string(),
+        walk_text(set.unwrap_or(walk)),
+    ]
+}
+
+/// Whether the build of this graph sheet is accepted and has a target 0.
+fn has_diverted_edge(words: &[u16]) -> bool {
+    let Some(sheet) = random::built_words(words) else {
+        return false;
+    };
+    sheet.iter().skip(copies_at(&sheet) + 3 * places(&sheet)).step_by(2).any(|target| *target == 0)
+}
+
+/// A list of choices for the monitor with a budget number of the sheet: its answers and its last state.
 fn run_case(random: &mut Random, size: Size) -> Vec<String> {
-    let mut words = random::buildable_graph(random, size);
+    let mut words = buildable(random, size);
     if random.chance(60) {
         // Rather a graph where some edge is diverted.
         for _ in 0..20 {
             if has_diverted_edge(&words) {
                 break;
             }
-            words = random::buildable_graph(random, size);
+            words = buildable(random, size);
         }
     }
-    let choices = random::choices(random, &words);
+    let number = random::inside_number(random, &words);
+    let choices = random::choices(random, &words, number);
     let mut state = Walk::start();
     let mut answers = Vec::new();
-    if let Ok(monitor) = Monitor::new(&words) {
+    if let Ok(monitor) = Monitor::new(&words, number) {
+        state = monitor.start();
         for choice in &choices {
             let (answer, after) = monitor.step(state, *choice);
             answers.push(answer);
             state = after;
         }
     }
-    vec!["run".into(), row(&words), row(&choices), row(&answers), walk_text(state)]
+    vec!["run".into(), row(&words), number.to_string(), row(&choices), row(&answers), walk_text(state)]
 }
 
 /// The bytes of a catalogue, and the bytes of its report.

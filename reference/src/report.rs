@@ -1,9 +1,10 @@
 // The report of a catalogue: figures of each sheet, totals, the greatest fraction of copies to blocks, the blocks that no kept path enters.
-// It rests on construction.rs for copies and edges, on cheapest.rs for the kept paths, and on request K1 of document 02.
+// It rests on construction.rs for copies and edges, on cheapest.rs for the kept paths, and on requests K1 and K2 of document 02.
 
 use crate::cheapest::{cheapest_completions, cheapest_ways};
 use crate::construction::build;
 use crate::graph::Graph;
+use crate::header;
 use crate::listing::{LARGEST_AREA, LARGEST_OUTPUT};
 
 const MOST_SHEETS: usize = 200;
@@ -44,27 +45,23 @@ fn figures(sheet: Option<Vec<u16>>) -> Result<Figures, u16> {
         return Err(built.answer);
     }
     let graph = Graph::read(&words)?;
-    Ok(Figures {
-        blocks: graph.blocks,
-        copies: usize::from(built.output[0]),
-        edges: usize::from(built.output[1]),
-        unused: blocks_not_entered(&graph),
-    })
+    let (copies, edges) = header::sizes(&built.output);
+    Ok(Figures { blocks: graph.blocks, copies, edges, unused: blocks_not_entered(&graph) })
 }
 
-/// The blocks, rising, that no path from block 1 to block 2 costing at most B enters. The cheapest path through a block is the
-/// cheapest way to it and then its cheapest completion.
+/// The blocks, rising, that no path from block 1 to block 2 costing at most B enters, where B is the largest budget: what a smaller
+/// one keeps, it keeps too. The cheapest path through a block is the cheapest way to it and then its cheapest completion.
 fn blocks_not_entered(graph: &Graph) -> Vec<usize> {
     let ways = cheapest_ways(graph);
     let completions = cheapest_completions(graph);
     let entered = |block: usize| match (ways[block], completions[block]) {
-        (Some(way), Some(completion)) => way + completion <= graph.budget,
+        (Some(way), Some(completion)) => way + completion <= graph.largest_budget(),
         _ => false,
     };
     (1..=graph.blocks).filter(|block| !entered(*block)).collect()
 }
 
-/// The blocks that no kept path enters; empty for a sheet refused 1 to 8.
+/// The blocks that no kept path enters; empty for a sheet refused 1 to 8 or 41.
 pub fn unused_blocks(words: &[u16]) -> Vec<usize> {
     match Graph::read(words) {
         Ok(graph) => blocks_not_entered(&graph),

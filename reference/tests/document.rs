@@ -1,14 +1,14 @@
-// Every example of document 01 as a test, its orders of refusals, and its claims on random sheets.
+// Every example of document 01 as a test, its orders of refusals, and its claims on random sheets of both versions.
 // It rests on the library's public functions and on paths enumerated one by one, nothing cleverer.
 
 mod paths;
 
-use paths::{cost, number_of_paths, paths, targets};
+use paths::{blocks, budgets, cost, largest_budget, number_of_paths, paths, targets};
 use reference::random::{self, Random, Size};
 use reference::*;
 
-const AREA: usize = 128 * 501;
-const OUTPUT: usize = 3 + 3 * 4096 + 2 * 8192;
+const AREA: usize = LARGEST_AREA;
+const OUTPUT: usize = LARGEST_OUTPUT;
 
 fn bytes(words: &[u16]) -> Vec<u8> {
     words.iter().flat_map(|word| word.to_le_bytes()).collect()
@@ -25,13 +25,18 @@ fn heading(words: &[u16]) -> String {
 fn sheet_of(words: &[u16]) -> Vec<u16> {
     let built = build(words, &vec![7; AREA], &vec![9; OUTPUT]);
     assert_eq!(built.answer, 0);
-    let needed = 3 + 3 * built.output[0] as usize + 2 * built.output[1] as usize;
+    let needed = filled_words(&built.output);
     assert!(built.output[needed..].iter().all(|word| *word == 9));
     built.output[..needed].to_vec()
 }
 
 fn going(place: u32, count: u32) -> Walk {
-    Walk { place, count, end: End::Going }
+    ended(place, count, End::Going)
+}
+
+/// A walk with the one budget of a sheet of the first version.
+fn ended(place: u32, count: u32, end: End) -> Walk {
+    Walk { place, count, end, budget: 1 }
 }
 
 // The worked example.
@@ -300,23 +305,23 @@ fn guarded_moves_in_order() {
     assert_eq!(go(going(9, 0), 0).0, 33);
     assert_eq!(go(going(2, 0), 0).0, 33);
     assert_eq!(go(going(3, 10), 0).0, 33);
-    assert_eq!(go(Walk { place: 3, count: 2, end: End::Exit }, 0).0, 33);
-    assert_eq!(go(Walk { place: 2, count: 2, end: End::Diverted }, 0).0, 33);
-    assert_eq!(go(Walk { place: 2, count: 10, end: End::Exit }, 0).0, 33);
-    assert_eq!(go(Walk { place: 3, count: 10, end: End::Diverted }, 0).0, 33);
-    assert_eq!(go(Walk { place: 2, count: 9, end: End::Exit }, 0).0, 32);
-    assert_eq!(go(Walk { place: 3, count: 9, end: End::Diverted }, 0).0, 32);
+    assert_eq!(go(ended(3, 2, End::Exit), 0).0, 33);
+    assert_eq!(go(ended(2, 2, End::Diverted), 0).0, 33);
+    assert_eq!(go(ended(2, 10, End::Exit), 0).0, 33);
+    assert_eq!(go(ended(3, 10, End::Diverted), 0).0, 33);
+    assert_eq!(go(ended(2, 9, End::Exit), 0).0, 32);
+    assert_eq!(go(ended(3, 9, End::Diverted), 0).0, 32);
     assert_eq!(go(Walk::start(), 0).0, 31);
     assert_eq!(go(Walk::start(), 2).0, 31);
     assert_eq!(go(Walk::start(), 1), (0, going(3, 2)));
     assert_eq!(go(going(3, 2), 2), (0, going(5, 6)));
     assert_eq!(go(going(5, 6), 1), (0, going(6, 7)));
-    assert_eq!(go(going(6, 7), 2), (0, Walk { place: 6, count: 7, end: End::Diverted }));
+    assert_eq!(go(going(6, 7), 2), (0, ended(6, 7, End::Diverted)));
     assert_eq!(go(going(6, 7), 1), (0, going(7, 8)));
-    assert_eq!(go(going(7, 8), 1), (0, Walk { place: 2, count: 8, end: End::Exit }));
+    assert_eq!(go(going(7, 8), 1), (0, ended(2, 8, End::Exit)));
     // A path costing exactly the budget is kept.
     assert_eq!(go(going(6, 4), 2), (0, going(8, 9)));
-    assert_eq!(go(going(6, 5), 2), (0, Walk { place: 6, count: 5, end: End::Diverted }));
+    assert_eq!(go(going(6, 5), 2), (0, ended(6, 5, End::Diverted)));
 }
 
 #[test]
@@ -328,15 +333,15 @@ fn bounded_moves_in_order() {
     assert_eq!(go(going(10, 0), 0).0, 33);
     assert_eq!(go(going(2, 0), 0).0, 33);
     assert_eq!(go(going(1, 10), 0).0, 33);
-    assert_eq!(go(Walk { place: 3, count: 1, end: End::Exit }, 0).0, 33);
-    assert_eq!(go(Walk { place: 2, count: 11, end: End::Exit }, 0).0, 33);
-    assert_eq!(go(Walk { place: 2, count: 10, end: End::Exit }, 0).0, 32);
-    assert_eq!(go(Walk { place: 3, count: 10, end: End::Diverted }, 0).0, 32);
+    assert_eq!(go(ended(3, 1, End::Exit), 0).0, 33);
+    assert_eq!(go(ended(2, 11, End::Exit), 0).0, 33);
+    assert_eq!(go(ended(2, 10, End::Exit), 0).0, 32);
+    assert_eq!(go(ended(3, 10, End::Diverted), 0).0, 32);
     assert_eq!(go(Walk::start(), 0).0, 31);
     assert_eq!(go(Walk::start(), 2).0, 31);
     assert_eq!(go(Walk::start(), 1), (0, going(3, 1)));
-    assert_eq!(go(going(6, 3), 2), (0, Walk { place: 6, count: 4, end: End::Diverted }));
-    assert_eq!(go(going(8, 9), 1), (0, Walk { place: 2, count: 10, end: End::Exit }));
+    assert_eq!(go(going(6, 3), 2), (0, ended(6, 4, End::Diverted)));
+    assert_eq!(go(going(8, 9), 1), (0, ended(2, 10, End::Exit)));
     // A going walk with count B whose move does not end counts on; the next move is then 33.
     assert_eq!(go(going(1, 9), 1), (0, going(3, 10)));
     assert_eq!(go(going(3, 10), 1).0, 33);
@@ -347,21 +352,38 @@ fn plain_monitor() {
     let words = paper_example(9);
     assert_eq!(monitor_step(&words, Walk::start(), 1), (0, going(3, 2)));
     assert_eq!(monitor_step(&words, Walk::start(), 0), (31, Walk::start()));
-    let diverted = Walk { place: 6, count: 7, end: End::Diverted };
+    let diverted = ended(6, 7, End::Diverted);
     assert_eq!(monitor_step(&words, going(6, 7), 2), (0, diverted));
     assert_eq!(monitor_step(&words, diverted, 2), (32, diverted));
 }
 
 // The claims, on random sheets.
 
+/// A valid sheet of one version and then of the other.
+fn of_both(random: &mut Random, round: usize) -> Vec<u16> {
+    if round % 2 == 0 {
+        random::valid_graph(random, Size::Tiny)
+    } else {
+        random::second_graph(random, Size::Tiny)
+    }
+}
+
+fn buildable_of_both(random: &mut Random, round: usize, size: Size) -> Vec<u16> {
+    if round % 2 == 0 {
+        random::buildable_graph(random, size)
+    } else {
+        random::buildable_second_graph(random, size)
+    }
+}
+
 #[test]
 fn tables_and_copies_agree_with_enumerated_paths() {
     let mut random = Random::new(11);
     let mut checked = 0;
-    for _ in 0..1500 {
-        let words = random::valid_graph(&mut random, Size::Tiny);
+    for round in 0..3000 {
+        let words = of_both(&mut random, round);
         assert_eq!(check_graph(&words), 0);
-        let (blocks, budget) = (words[0], words[2] as usize);
+        let (blocks, budget) = (blocks(&words), largest_budget(&words));
         if (1..=blocks).map(|block| number_of_paths(&words, block, budget)).sum::<usize>() > 3000 {
             continue;
         }
@@ -380,16 +402,19 @@ fn tables_and_copies_agree_with_enumerated_paths() {
             row.iter().rposition(|byte| *byte == 1)
         };
 
-        // The copies: added round by round until no round adds one.
+        // The start copies, and the copies: added round by round until no round adds one.
         let built = build(&words, &vec![7; AREA], &vec![9; OUTPUT]);
-        let start = match largest(1, budget) {
-            Some(low) => (1, low),
-            None => {
-                assert_eq!(built.answer, 9);
-                continue;
+        if largest(1, budget).is_none() {
+            assert_eq!(built.answer, 9);
+            continue;
+        }
+        let starts: Vec<Option<usize>> = budgets(&words).iter().map(|budget| largest(1, *budget)).collect();
+        let mut copies: Vec<(u16, usize)> = Vec::new();
+        for low in starts.iter().flatten() {
+            if !copies.contains(&(1, *low)) {
+                copies.push((1, *low));
             }
-        };
-        let mut copies = vec![start];
+        }
         loop {
             let mut more = Vec::new();
             for (block, low) in &copies {
@@ -407,39 +432,66 @@ fn tables_and_copies_agree_with_enumerated_paths() {
             copies.extend(more);
         }
         copies.sort();
+        let number = |copy: (u16, usize)| 1 + copies.iter().position(|other| *other == copy).unwrap() as u16;
 
+        // The header, with an entry for each budget in the second version.
         assert_eq!(built.answer, 0);
-        let sheet = &built.output;
-        assert_eq!(sheet[0] as usize, copies.len());
+        let sheet = &built.output[..filled_words(&built.output)];
+        let edges: usize = copies.iter().map(|(block, _)| targets(&words, *block).len()).sum();
+        let named: Vec<u16> = budgets(&words).iter().map(|budget| *budget as u16).collect();
+        let header = if words[0] == 0 {
+            let entries: Vec<u16> = starts.iter().map(|low| low.map_or(0, |low| number((1, low)))).collect();
+            [vec![0, copies.len() as u16, edges as u16, named.len() as u16], named, entries].concat()
+        } else {
+            vec![copies.len() as u16, edges as u16, named[0]]
+        };
+        assert_eq!(sheet[..header.len()], header);
+        assert_eq!(copies_at(sheet), header.len());
+        assert_eq!(check_bounded(sheet), 0);
+
         for (index, (block, low)) in copies.iter().enumerate() {
-            assert_eq!(sheet[3 + 3 * index..][..2], [*block, *low as u16]);
+            assert_eq!(sheet[header.len() + 3 * index..][..2], [*block, *low as u16]);
             let expected: Vec<u16> = targets(&words, *block)
                 .iter()
                 .map(|target| match largest(*target, low - cost(&words, *block)) {
-                    Some(next) => {
-                        1 + copies.iter().position(|copy| *copy == (*target, next)).unwrap() as u16
-                    }
+                    Some(next) => number((*target, next)),
                     None => 0,
                 })
                 .collect();
-            let needed = 3 + 3 * sheet[0] as usize + 2 * sheet[1] as usize;
-            let (answer, part) = edge_words(&sheet[..needed], index as u32 + 1);
+            let (answer, part) = edge_words(sheet, index as u32 + 1);
             assert_eq!(answer, 0);
             let found: Vec<u16> = part.chunks(2).map(|record| record[0]).collect();
             assert_eq!(found, expected);
         }
     }
-    assert!(checked > 1000);
+    assert!(checked > 2000);
 }
 
-/// The claim on a list of choices: monitor, bounded moves and guarded moves go together.
-fn go_together(words: &[u16], choices: &[u32], random: &mut Random) {
-    let budget = words[2] as u32;
+/// The claim on a list of choices with one budget number of the sheet: monitor, bounded moves and guarded moves go together.
+fn go_together(words: &[u16], number: u32, choices: &[u32], random: &mut Random) {
+    let budget = budgets(words)[number as usize - 1] as u32;
     let sheet = sheet_of(words);
     assert_eq!(check_bounded(&sheet), 0);
-    let monitor = Monitor::new(words).ok().unwrap();
-    let area_needed = words[0] as usize * (words[2] as usize + 1);
-    let (mut state, mut bounded, mut guarded) = (Walk::start(), Walk::start(), Walk::start());
+    let monitor = Monitor::new(words, number).ok().unwrap();
+    let area_needed = blocks(words) as usize * (largest_budget(words) + 1);
+    let junk = vec![random.below(256) as u8; area_needed];
+
+    // The starts: on a sheet of the first version the starting walk.
+    let mut state = monitor.start();
+    let (answer, started, _) = start_guarded(words, &junk, number);
+    let mut guarded = started.unwrap();
+    assert_eq!((answer, guarded), (0, state));
+    let (answer, started) = start_bounded(&sheet, number);
+    let mut bounded = started.unwrap();
+    let shown = |walk: Walk| u32::from(sheet[copies_at(&sheet) + 3 * (walk.place as usize - 1)]);
+    assert_eq!((answer, shown(bounded)), (0, 1));
+    assert_eq!((bounded.count, bounded.end, bounded.budget), (0, state.end, number));
+    if words[0] != 0 {
+        assert_eq!((state, bounded), (Walk::start(), Walk::start()));
+    }
+    let any_path = some_path_costs_at_most(words, budget as usize);
+    assert_eq!(state.end, if any_path { End::Going } else { End::Diverted });
+
     let mut moves = 0;
     for choice in choices {
         let (first, after) = monitor.step(state, *choice);
@@ -455,9 +507,9 @@ fn go_together(words: &[u16], choices: &[u32], random: &mut Random) {
             moves += 1;
         }
     }
-    let shown = sheet[3 + 3 * (bounded.place as usize - 1)] as u32;
-    assert_eq!((state.place, state.place), (shown, guarded.place));
+    assert_eq!((state.place, state.place), (shown(bounded), guarded.place));
     assert_eq!((state.end, state.end), (bounded.end, guarded.end));
+    assert_eq!((number, number), (bounded.budget, guarded.budget));
     assert_eq!(state.count, guarded.count);
     assert!(state.count <= budget);
     assert_eq!(bounded.count, moves);
@@ -470,17 +522,24 @@ fn go_together(words: &[u16], choices: &[u32], random: &mut Random) {
     }
 }
 
+/// Whether some path from start to exit costs at most so much, by the row of block 1 in the table.
+fn some_path_costs_at_most(words: &[u16], budget: usize) -> bool {
+    completion_table(words)[..=budget].contains(&1)
+}
+
 #[test]
 fn lists_of_choices() {
     let mut random = Random::new(5);
-    for (size, rounds) in [(Size::Tiny, 3000), (Size::Small, 1000), (Size::Any, 150)] {
-        for _ in 0..rounds {
-            let words = random::buildable_graph(&mut random, size);
-            let choices = random::choices(&mut random, &words);
-            go_together(&words, &choices, &mut random);
+    for (size, rounds) in [(Size::Tiny, 6000), (Size::Small, 2000), (Size::Any, 300)] {
+        for round in 0..rounds {
+            let words = buildable_of_both(&mut random, round, size);
+            let number = random::inside_number(&mut random, &words);
+            let choices = random::choices(&mut random, &words, number);
+            go_together(&words, number, &choices, &mut random);
         }
     }
-    go_together(&paper_example(9), &[], &mut random);
+    go_together(&paper_example(9), 1, &[], &mut random);
+    go_together(&with_budgets(&paper_example(9), &[4, 9]), 1, &[], &mut random);
 }
 
 #[test]
@@ -488,22 +547,23 @@ fn paths_run_unchanged_exactly_within_the_budget() {
     let mut random = Random::new(23);
     let mut kept = 0;
     let mut stopped = 0;
-    for _ in 0..800 {
-        let words = random::buildable_graph(&mut random, Size::Tiny);
-        let budget = words[2] as usize;
+    for round in 0..1600 {
+        let words = buildable_of_both(&mut random, round, Size::Tiny);
+        let number = random::inside_number(&mut random, &words);
+        let budget = budgets(&words)[number as usize - 1];
         if number_of_paths(&words, 1, budget + 3) > 500 {
             continue;
         }
         let sheet = sheet_of(&words);
         for (choices, blocks, total) in paths(&words, 1, budget + 3) {
-            let mut walk = Walk::start();
+            let mut walk = start_bounded(&sheet, number).1.unwrap();
             let mut shown = vec![1];
             let mut unchanged = true;
             for choice in &choices {
                 let (answer, after) = bounded_move(&sheet, walk, *choice);
                 unchanged &= answer == 0;
                 walk = after;
-                shown.push(sheet[3 + 3 * (walk.place as usize - 1)]);
+                shown.push(sheet[copies_at(&sheet) + 3 * (walk.place as usize - 1)]);
             }
             unchanged &= shown == blocks && walk.end == End::Exit;
             assert_eq!(unchanged, total <= budget);
@@ -514,35 +574,49 @@ fn paths_run_unchanged_exactly_within_the_budget() {
             }
         }
     }
-    assert!(kept > 500 && stopped > 500);
+    assert!(kept > 1000 && stopped > 1000);
 }
 
 #[test]
 fn tiny_material_is_tiny() {
     let mut random = Random::new(3);
-    for _ in 0..3000 {
-        let words = random::valid_graph(&mut random, Size::Tiny);
+    let is_tiny = |words: &[u16]| blocks(words) <= 5 && words[if words[0] == 0 { 2 } else { 1 }] <= 8 && largest_budget(words) <= 8;
+    for round in 0..6000 {
+        let words = of_both(&mut random, round);
         assert_eq!(check_graph(&words), 0);
-        assert!(words[0] <= 5 && words[1] <= 8 && words[2] <= 8);
-        let words = random::damaged_graph(&mut random, Size::Tiny);
-        let within = words.len() >= 3 && words[0] <= 5 && words[1] <= 8 && words[2] <= 8;
-        assert!(within || (1..=4).contains(&check_graph(&words)));
-        assert_eq!(check_bounded(&random::sound_bounded_sheet(&mut random, Size::Tiny)), 0);
-        let words = random::damaged_bounded_sheet(&mut random, Size::Tiny);
-        assert!(check_bounded(&words) == 11 || words[2] <= 8);
+        assert!(is_tiny(&words));
+        let words = match round % 2 {
+            0 => random::damaged_graph(&mut random, Size::Tiny),
+            _ => random::damaged_second_graph(&mut random, Size::Tiny),
+        };
+        assert!(matches!(check_graph(&words), 1..=4 | 41) || is_tiny(&words));
+        let sound = match round % 2 {
+            0 => random::sound_bounded_sheet(&mut random, Size::Tiny),
+            _ => random::sound_second_bounded_sheet(&mut random, Size::Tiny),
+        };
+        assert_eq!(check_bounded(&sound), 0);
+        let words = match round % 2 {
+            0 => random::damaged_bounded_sheet(&mut random, Size::Tiny),
+            _ => random::damaged_second_bounded_sheet(&mut random, Size::Tiny),
+        };
+        assert!(check_bounded(&words) == 11 || largest_budget(&words) <= 8);
     }
 }
 
 #[test]
 fn nothing_panics_and_refusals_keep_what_is_lent() {
     let mut random = Random::new(77);
-    for round in 0..3000 {
+    for round in 0..6000 {
         let size = if round % 10 == 0 { Size::Any } else { Size::Tiny };
-        let words = match random.below(4) {
+        let words = match random.below(6) {
             0 => (0..random.below(30)).map(|_| random.below(12) as u16).collect(),
-            1 => random::sound_bounded_sheet(&mut random, size),
-            2 => random::damaged_bounded_sheet(&mut random, size),
-            _ => random::damaged_graph(&mut random, size),
+            // Any words behind a first word 0.
+            1 => (0..random.below(30)).map(|index| if index == 0 { 0 } else { random.below(6) as u16 }).collect(),
+            2 => random::bounded_words(&mut random, size, 100),
+            3 => random::bounded_words(&mut random, size, 0),
+            4 => random::graph_words(&mut random, size, 0),
+            _ if random.chance(10) => random::many_budgets(&mut random, 70000),
+            _ => random::graph_words(&mut random, size, 100),
         };
         let area = vec![7; random.below(60)];
         let output = vec![9; random.below(60)];
@@ -559,15 +633,24 @@ fn nothing_panics_and_refusals_keep_what_is_lent() {
             assert_eq!(built.area, area);
         }
         let walk = random::graph_walk(&mut random, &words);
-        let (answer, after, _) = guarded_move(&words, &area, walk, random.below(4) as u32);
+        let (answer, after, moved) = guarded_move(&words, &area, walk, random.below(4) as u32);
         if answer != 0 {
             assert_eq!(after, walk);
+        }
+        // A start leaves the area as a move does, and its refusals are the move's up to 33.
+        let (start, set, started) = start_guarded(&words, &area, walk.budget);
+        assert_eq!(started, moved);
+        assert_eq!(set.is_some(), start == 0);
+        if !matches!(answer, 0 | 31 | 32 | 33) {
+            assert_eq!(start, answer);
         }
         let walk = random::bounded_walk(&mut random, &words);
         let (answer, after) = bounded_move(&words, walk, random.below(4) as u32);
         if answer != 0 {
             assert_eq!(after, walk);
         }
+        let (start, set) = start_bounded(&words, walk.budget);
+        assert_eq!((start == 11, start == 0), (answer == 11, set.is_some()));
         monitor_step(&words, walk, random.below(4) as u32);
         successor_count(&words, random.below(140) as u16);
         edge_words(&words, random.below(30) as u32);

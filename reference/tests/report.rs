@@ -1,10 +1,10 @@
-// The report of a catalogue: request K1 line by line, on the example of document 01 and on cut, long and random catalogues.
+// The report of a catalogue: request K1 line by line, on the example of document 01 and on cut, long and random catalogues of both versions.
 // It rests on the library's public functions; the blocks that kept paths enter are found from paths enumerated one by one.
 
 mod paths;
 
-use paths::{number_of_paths, paths};
-use reference::catalogue::{catalogue, example, short_catalogue};
+use paths::{blocks, largest_budget, number_of_paths, paths};
+use reference::catalogue::{catalogue, example, second_example, short_catalogue};
 use reference::corpus::{self, encoded};
 use reference::random::{self, Random, Size};
 use reference::*;
@@ -139,15 +139,16 @@ fn unused_blocks_agree_with_enumerated_paths_and_with_the_copies() {
                 continue;
             };
             let found = unused_blocks(&words);
-            let copies = &built[3..][..3 * usize::from(built[0])];
+            let number = usize::from(built[usize::from(built[0] == 0)]);
+            let copies = &built[copies_at(&built)..][..3 * number];
             let without = |entered: &BTreeSet<u16>| -> Vec<usize> {
-                (1..=words[0]).filter(|block| !entered.contains(block)).map(usize::from).collect()
+                (1..=blocks(&words)).filter(|block| !entered.contains(block)).map(usize::from).collect()
             };
             assert_eq!(found, without(&copies.chunks(3).map(|copy| copy[0]).collect()), "{words:?}");
             compared += 1;
             unused += found.len();
-            if size == Size::Tiny && number_of_paths(&words, 1, usize::from(words[2])) < 3000 {
-                let kept = paths(&words, 1, usize::from(words[2]));
+            if size == Size::Tiny && number_of_paths(&words, 1, largest_budget(&words)) < 3000 {
+                let kept = paths(&words, 1, largest_budget(&words));
                 assert_eq!(found, without(&kept.into_iter().flat_map(|(_, blocks, _)| blocks).collect()), "{words:?}");
                 enumerated += 1;
             }
@@ -159,7 +160,7 @@ fn unused_blocks_agree_with_enumerated_paths_and_with_the_copies() {
 #[test]
 fn random_catalogues_have_every_shape() {
     let (mut odd, mut cut, mut none, mut full, mut over, mut longest) = (0, 0, 0, 0, 0, 0);
-    let mut refused = [0; 11];
+    let mut refused = [0; 42];
     for seed in 0..300 {
         let bytes = catalogue(seed, 12);
         let sheets = catalogue_sheets(&bytes);
@@ -179,7 +180,7 @@ fn random_catalogues_have_every_shape() {
         }
     }
     assert!(odd > 20 && cut > 20 && none > 0 && full > 5 && over > 2 && longest == 65535);
-    assert!(refused[1..].iter().all(|times| *times > 0), "{refused:?}");
+    assert!((1..=10).chain([41]).all(|number| refused[number] > 0), "{refused:?}");
 }
 
 #[test]
@@ -195,4 +196,36 @@ fn the_stored_catalogue() {
     assert!(text.contains("\nmost 26 403 3\n") && text.contains("\n27 6 806 1610\n"));
     assert!(text.contains("\n45 128 90 360\n46 refused 3\n47 refused 2\n48 8 9 11\n49 refused 3\n"));
     assert!(text.contains("\ntotal 983 67706 135525\n"));
+}
+
+#[test]
+fn budgets_of_the_second_version() {
+    // 2 + B copies of 3 blocks with one budget, and one more for each further start copy; an unused block by the largest budget.
+    let looping = |budgets: &[u16]| with_budgets(&loops(1, 4), budgets);
+    let dear = |budgets: &[u16]| budgets_sheet(&[0, 0, 2, 9], &[vec![3, 4], vec![], vec![2], vec![2]], budgets);
+    let sheets = [looping(&[4]), looping(&[3, 4]), dear(&[2, 9]), dear(&[2, 8]), looping(&[4, 4]), looping(&[0]), looping(&[0, 1])];
+    let expected = "1 3 6 9\n2 3 7 10\n3 4 5 6\n4 4 3 3\n5 refused 41\n6 refused 9\n7 3 3 3\ntotal 17 24 31\nmost 2 7 3\nunused 4 4\n";
+    assert_eq!(report(&encoded(&sheets)), expected);
+}
+
+#[test]
+fn each_refusal_of_the_second_version_gives_its_one_line() {
+    let numbers = [1, 2, 3, 4, 41, 5, 6, 7, 8, 9, 10];
+    let expected: String = numbers.iter().enumerate().map(|(index, number)| format!("{} refused {number}\n", index + 1)).collect();
+    assert_eq!(report(&encoded(&corpus::second_refusals())), expected + "total 0 0 0\nmost none\n");
+}
+
+#[test]
+fn the_stored_catalogue_of_the_second_version() {
+    let bytes = second_example();
+    let text = report(&bytes);
+    assert!(bytes.len() < 30000 && bytes.len() % 2 == 1);
+    for number in (1..=10).chain([41]) {
+        assert!(text.contains(&format!(" refused {number}\n")), "{number}");
+    }
+    assert_eq!(catalogue_sheets(&bytes).last(), Some(&None));
+    // The earlier of two equal fractions; 1,288 words, one more, and 129 blocks; many budgets, and the last of many above 500.
+    assert!(text.contains("\n45 3 403 803\n46 3 406 806\n47 13 4096 8192\n48 13 4096 8192\n49 refused 10\n"));
+    assert!(text.contains("\n50 128 96 392\n51 refused 3\n52 refused 2\n53 refused 41\n54 refused 4\n55 refused 3\n"));
+    assert!(text.contains("\nmost 47 4096 13\nunused 43 4\n"));
 }

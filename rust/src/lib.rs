@@ -6,13 +6,16 @@ mod walk;
 
 pub use walk::{End, Walk};
 
-/// The most bytes that a work area has to have: N * (B + 1) for N = 128 and B = 500.
+/// The most budgets that a sheet of the second version has.
+pub const MOST_BUDGETS: usize = 4;
+
+/// The most bytes that a work area has to have: N * (B + 1) for N = 128 and a largest budget B = 500.
 pub const MOST_AREA: usize = 128 * 501;
 
-/// The most words that a build fills: 3 + 3C + 2F for C = 4,096 and F = 8,192.
-pub const MOST_OUTPUT: usize = 3 + 3 * 4096 + 2 * 8192;
+/// The most words that a build fills: 4 + 2k + 3C + 2F for k = 4 budgets, C = 4,096 and F = 8,192.
+pub const MOST_OUTPUT: usize = 4 + 2 * MOST_BUDGETS + 3 * 4096 + 2 * 8192;
 
-/// The number of a refusal, as document 01 lists it.
+/// The number of a refusal, as documents 01 and 02 list it.
 #[derive(Clone, Copy, PartialEq, Eq, Debug)]
 pub struct Refusal(pub u16);
 
@@ -31,8 +34,8 @@ impl std::fmt::Display for Refusal {
         let condition = match self.0 {
             1 => "fewer than 3 words",
             2 => "N or E outside its limit",
-            3 => "not exactly 3 + 2N + 2E words",
-            4 => "B above 500",
+            3 => "not exactly 3 + 2N + 2E words, or 4 + k + 2N + 2E with k budgets",
+            4 => "a budget above 500",
             5 => "block 1 or 2 with a cost, or another block with cost 0",
             6 => "a target that is 0, 1 or above N",
             7 => "the chains leave the sheet, meet an edge twice or miss an edge",
@@ -41,10 +44,11 @@ impl std::fmt::Display for Refusal {
             10 => "more than 4,096 copies or 8,192 edges",
             11 => "a bounded sheet that breaks a rule",
             21 => "work area shorter than N * (B + 1) bytes",
-            22 => "output row shorter than 3 + 3C + 2F words",
+            22 => "output row shorter than 3 + 3C + 2F words, or 4 + 2k + 3C + 2F with k budgets",
             31 => "choice 0 or beyond the place's successors",
             32 => "the walk has ended",
-            33 => "walk, block or copy outside the sheet, or walk out of shape",
+            33 => "walk, block, copy or budget number outside the sheet, or walk out of shape",
+            41 => "not 1 to 4 budgets, or budgets that do not rise strictly",
             _ => "unknown",
         };
         write!(out, "refused {}: {condition}", self.0)
@@ -53,27 +57,36 @@ impl std::fmt::Display for Refusal {
 
 impl std::error::Error for Refusal {}
 
-/// The conditions 1 to 8 on a graph sheet.
+/// The conditions 1 to 8 with 41 on a graph sheet.
 pub fn check_graph(sheet: &[u16]) -> Result<(), Refusal> {
     Refusal::from_answer(raw::check_graph(sheet))
 }
 
-/// The number of successors of a block: 1 to 8, 33.
+/// The number of successors of a block: 1 to 8 with 41, 33.
 pub fn count_successors(sheet: &[u16], block: u16) -> Result<u16, Refusal> {
     let mut count = 0;
     Refusal::from_answer(raw::count_successors(sheet, block, &mut count)).map(|()| count)
 }
 
-/// Weighs a graph sheet into the work area: 1 to 8, 21, 9. From 9 on the area holds the completion table.
+/// Weighs a graph sheet into the work area: 1 to 8 with 41, 21, 9. From 9 on the area holds the completion table.
 pub fn weigh(sheet: &[u16], area: &mut [u8]) -> Result<(), Refusal> {
     Refusal::from_answer(raw::weigh(sheet, area))
 }
 
-/// Builds the bounded sheet of a graph sheet into the output row: 1 to 8, 21, 9, 10, 22. Hands back the words that it filled.
+/// Builds the bounded sheet of a graph sheet into the output row, of the same version: 1 to 8 with 41, 21, 9, 10, 22. Hands back the words
+/// that it filled.
 pub fn build<'a>(sheet: &[u16], area: &mut [u8], output: &'a mut [u16]) -> Result<&'a [u16], Refusal> {
     Refusal::from_answer(raw::build(sheet, area, output))?;
-    let filled = 3 + 3 * usize::from(output[0]) + 2 * usize::from(output[1]);
-    Ok(&output[..filled])
+    Ok(&output[..filled_words(output)])
+}
+
+/// How many words a build has filled that was accepted: the header, three words for each copy and two for each edge.
+fn filled_words(output: &[u16]) -> usize {
+    let (header, sizes) = match output[0] {
+        0 => (4 + 2 * usize::from(output[3]), &output[1..3]),
+        _ => (3, &output[..2]),
+    };
+    header + 3 * usize::from(sizes[0]) + 2 * usize::from(sizes[1])
 }
 
 /// Rule 11 on a bounded sheet.

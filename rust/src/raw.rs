@@ -1,4 +1,4 @@
-// The exported functions as the static library has them: a slice is a pointer and a length, a walk three words.
+// The exported functions as the static library has them: a slice is a pointer and a length, a walk four words.
 // It rests on target/staticlib/libgilstavo.a; nothing checks these declarations against crates/gilstavo/src/lib.rt.
 //
 // Why each call is safe: every exported function takes any content and any length of its slices (it has no `requires`), reads and
@@ -25,16 +25,25 @@ mod exported {
             start: *mut usize,
             size: *mut usize,
         ) -> u16;
-        pub fn gilstavo_start(walk: *mut [u16; 3]);
+        pub fn gilstavo_start(walk: *mut [u16; 4]);
+        pub fn gilstavo_start_guarded(
+            sheet: *const u16,
+            sheet_words: usize,
+            area: *mut u8,
+            area_bytes: usize,
+            walk: *mut [u16; 4],
+            budget: u16,
+        ) -> u16;
+        pub fn gilstavo_start_bounded(sheet: *const u16, sheet_words: usize, walk: *mut [u16; 4], budget: u16) -> u16;
         pub fn gilstavo_guarded_move(
             sheet: *const u16,
             sheet_words: usize,
             area: *mut u8,
             area_bytes: usize,
-            walk: *mut [u16; 3],
+            walk: *mut [u16; 4],
             choice: u16,
         ) -> u16;
-        pub fn gilstavo_bounded_move(sheet: *const u16, sheet_words: usize, walk: *mut [u16; 3], choice: u16) -> u16;
+        pub fn gilstavo_bounded_move(sheet: *const u16, sheet_words: usize, walk: *mut [u16; 4], choice: u16) -> u16;
     }
 }
 
@@ -74,11 +83,28 @@ pub fn edge_words(sheet: &[u16], copy: u16) -> (u16, usize, usize) {
     (answer, start, size)
 }
 
-pub fn start(walk: &mut [u16; 3]) {
+pub fn start(walk: &mut [u16; 4]) {
     unsafe { exported::gilstavo_start(walk) }
 }
 
-pub fn guarded_move(sheet: &[u16], area: &mut [u8], walk: &mut [u16; 3], choice: u16) -> u16 {
+pub fn start_guarded(sheet: &[u16], area: &mut [u8], walk: &mut [u16; 4], budget: u16) -> u16 {
+    unsafe {
+        exported::gilstavo_start_guarded(
+            sheet.as_ptr(),
+            sheet.len(),
+            area.as_mut_ptr(),
+            area.len(),
+            walk,
+            budget,
+        )
+    }
+}
+
+pub fn start_bounded(sheet: &[u16], walk: &mut [u16; 4], budget: u16) -> u16 {
+    unsafe { exported::gilstavo_start_bounded(sheet.as_ptr(), sheet.len(), walk, budget) }
+}
+
+pub fn guarded_move(sheet: &[u16], area: &mut [u8], walk: &mut [u16; 4], choice: u16) -> u16 {
     unsafe {
         exported::gilstavo_guarded_move(
             sheet.as_ptr(),
@@ -91,6 +117,6 @@ pub fn guarded_move(sheet: &[u16], area: &mut [u8], walk: &mut [u16; 3], choice:
     }
 }
 
-pub fn bounded_move(sheet: &[u16], walk: &mut [u16; 3], choice: u16) -> u16 {
+pub fn bounded_move(sheet: &[u16], walk: &mut [u16; 4], choice: u16) -> u16 {
     unsafe { exported::gilstavo_bounded_move(sheet.as_ptr(), sheet.len(), walk, choice) }
 }

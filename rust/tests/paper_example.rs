@@ -1,5 +1,5 @@
-// The wrapper on the example of document 01: every call, accepted and refused.
-// It rests on the wrapper alone; the expected words are those of document 01.
+// The wrapper on the example of document 01, with one budget and with two: every call, accepted and refused.
+// It rests on the wrapper alone; the expected words are those of document 01, and for two budgets computed by hand.
 
 use gilstavo::{
     build, check_bounded, check_graph, count_successors, edge_words, weigh, End, Refusal, Walk, MOST_AREA, MOST_OUTPUT,
@@ -17,6 +17,21 @@ const BOUNDED: [u16; 52] = [
     9, 11, 9, 1, 9, 1, 2, 0, 0, 3, 9, 2, 4, 7, 4, 5, 6, 5, 6, 2, 6, 6, 6, 8, 7, 1, 10, 8, 5, 11, 3, 0, 4, 3, 5, 0, 7, 0, 6, 0,
     8, 7, 0, 0, 8, 9, 9, 0, 2, 0, 2, 0,
 ];
+
+/// The same graph in the second version, with two budgets.
+fn with_two_budgets(first: u16, second: u16) -> Vec<u16> {
+    [&[0, 8, 9, 2, first, second], &example(9)[3..]].concat()
+}
+
+/// Its bounded sheet for 5 and 9: the start copies 1 and 2, the exit copy 3.
+const TWO: [u16; 74] = [
+    0, 12, 15, 2, 5, 9, 1, 2, 1, 5, 1, 1, 9, 2, 2, 0, 0, 3, 5, 3, 3, 9, 5, 4, 3, 7, 4, 7, 8, 5, 6, 9, 6, 2, 10, 6, 6, 12, 7, 1, 14, 8, 5,
+    15, 4, 0, 5, 0, 6, 4, 0, 0, 7, 6, 8, 0, 9, 0, 10, 0, 9, 0, 11, 11, 0, 0, 11, 13, 12, 0, 3, 0, 3, 0,
+];
+
+fn walk(place: u16, count: u16, end: End, budget: u16) -> Walk {
+    Walk { place, count, end, budget }
+}
 
 #[test]
 fn the_build_of_the_example() {
@@ -59,20 +74,79 @@ fn successors_and_edge_words() {
 fn a_path_of_10_cycles_is_diverted() {
     let mut area = [7; 80];
     let (mut watched, mut walked) = (Walk::start(), Walk::start());
-    assert_eq!(watched, Walk { place: 1, count: 0, end: End::Going });
+    assert_eq!(watched, walk(1, 0, End::Going, 1));
     for choice in [1, 2, 1, 2] {
         assert_eq!(watched.guarded_move(&example(9), &mut area, choice), Ok(()));
         assert_eq!(walked.bounded_move(&BOUNDED, choice), Ok(()));
     }
-    assert_eq!(watched, Walk { place: 6, count: 7, end: End::Diverted });
-    assert_eq!(walked, Walk { place: 6, count: 4, end: End::Diverted });
+    assert_eq!(watched, walk(6, 7, End::Diverted, 1));
+    assert_eq!(walked, walk(6, 4, End::Diverted, 1));
     assert_eq!(watched.guarded_move(&example(9), &mut area, 1), Err(Refusal(32)));
     assert_eq!(walked.bounded_move(&BOUNDED, 1), Err(Refusal(32)));
 }
 
 #[test]
 fn a_walk_out_of_shape() {
-    let mut walk = Walk { place: 2, count: 0, end: End::Going };
-    assert_eq!(walk.bounded_move(&BOUNDED, 1), Err(Refusal(33)));
-    assert_eq!(walk, Walk { place: 2, count: 0, end: End::Going });
+    for out_of_shape in [walk(2, 0, End::Going, 1), walk(1, 0, End::Going, 2), walk(1, 0, End::Going, 0)] {
+        let mut lent = out_of_shape;
+        assert_eq!(lent.bounded_move(&BOUNDED, 1), Err(Refusal(33)));
+        assert_eq!(lent, out_of_shape);
+    }
+}
+
+#[test]
+fn the_build_with_two_budgets() {
+    let mut area = [7; MOST_AREA];
+    let mut output = [9; MOST_OUTPUT];
+    assert_eq!(build(&with_two_budgets(5, 9), &mut area, &mut output), Ok(&TWO[..]));
+    assert!(area[80..].iter().all(|byte| *byte == 7));
+    assert_eq!(build(&with_two_budgets(5, 9), &mut area, &mut output[..73]), Err(Refusal(22)));
+    assert_eq!(build(&with_two_budgets(9, 9), &mut area, &mut output), Err(Refusal(41)));
+    assert_eq!(build(&with_two_budgets(9, 501), &mut area, &mut output), Err(Refusal(4)));
+    assert_eq!(build(&with_two_budgets(3, 4), &mut area, &mut output), Err(Refusal(9)));
+    assert_eq!(check_bounded(&TWO), Ok(()));
+    assert_eq!(edge_words(&TWO, 10), Ok(&[11, 13, 12, 0][..]));
+    assert_eq!(Refusal(41).to_string(), "refused 41: not 1 to 4 budgets, or budgets that do not rise strictly");
+}
+
+#[test]
+fn starts_with_a_budget_number() {
+    let mut area = [7; 80];
+    let sheet = with_two_budgets(4, 9);
+    assert_eq!(Walk::start_guarded(&sheet, &mut area, 1), Ok(walk(1, 0, End::Diverted, 1)));
+    assert_eq!(Walk::start_guarded(&sheet, &mut area, 2), Ok(walk(1, 0, End::Going, 2)));
+    assert_eq!(Walk::start_guarded(&sheet, &mut area, 3), Err(Refusal(33)));
+    assert_eq!(Walk::start_guarded(&sheet, &mut area[..79], 3), Err(Refusal(21)));
+    assert_eq!(Walk::start_guarded(&example(9), &mut area, 1), Ok(Walk::start()));
+    assert_eq!(Walk::start_bounded(&TWO, 1), Ok(walk(1, 0, End::Going, 1)));
+    assert_eq!(Walk::start_bounded(&TWO, 2), Ok(walk(2, 0, End::Going, 2)));
+    assert_eq!(Walk::start_bounded(&TWO, 0), Err(Refusal(33)));
+    assert_eq!(Walk::start_bounded(&TWO[..73], 0), Err(Refusal(11)));
+    assert_eq!(Walk::start_bounded(&BOUNDED, 1), Ok(Walk::start()));
+    // A budget that nothing fits has the entry 0.
+    let mut output = [9; 63];
+    let unfit = build(&sheet, &mut area, &mut output).unwrap();
+    assert_eq!(unfit[..8], [0, 9, 11, 2, 4, 9, 0, 1]);
+    assert_eq!(Walk::start_bounded(unfit, 1), Ok(walk(1, 0, End::Diverted, 1)));
+}
+
+#[test]
+fn the_same_choices_under_two_budgets() {
+    // Under 5 cycles the second choice is diverted at block 3, under 9 the fourth at block 6.
+    for (number, moves, guarded_end, bounded_end) in [
+        (1, 2, walk(3, 2, End::Diverted, 1), walk(4, 2, End::Diverted, 1)),
+        (2, 4, walk(6, 7, End::Diverted, 2), walk(9, 4, End::Diverted, 2)),
+    ] {
+        let mut area = [7; 80];
+        let sheet = with_two_budgets(5, 9);
+        let mut guarded = Walk::start_guarded(&sheet, &mut area, number).unwrap();
+        let mut bounded = Walk::start_bounded(&TWO, number).unwrap();
+        for choice in &[1, 2, 1, 2][..moves] {
+            assert_eq!(guarded.guarded_move(&sheet, &mut area, *choice), Ok(()));
+            assert_eq!(bounded.bounded_move(&TWO, *choice), Ok(()));
+        }
+        assert_eq!((guarded, bounded), (guarded_end, bounded_end));
+        assert_eq!(guarded.guarded_move(&sheet, &mut area, 1), Err(Refusal(32)));
+        assert_eq!(bounded.bounded_move(&TWO, 1), Err(Refusal(32)));
+    }
 }

@@ -6,7 +6,7 @@
 
 use compare::{plain, sheets, tuned};
 use gilstavo::raw;
-use reference::{corpus, End, Walk};
+use reference::{corpus, filled_words, Walk};
 use std::hint::black_box;
 use std::time::Instant;
 
@@ -60,7 +60,8 @@ fn build(sheet: &[u16]) -> Times {
     assert_eq!((other, &other_area, &other_output), (wanted.answer, &wanted.area, &wanted.output), "{sheet:?}");
     let third = rows.build(sheet, &mut third_area, &mut third_output);
     assert_eq!((third, &third_area, &third_output), (wanted.answer, &wanted.area, &wanted.output), "{sheet:?}");
-    let (copies, edges) = if answer == 0 { (output[0], output[1]) } else { (0, 0) };
+    let sizes = usize::from(output[0] == 0);
+    let (copies, edges) = if answer == 0 { (output[sizes], output[sizes + 1]) } else { (0, 0) };
     let (kept_area, kept_output) = (area.clone(), output.clone());
     let took = timed(&mut [
         &mut || {
@@ -119,6 +120,13 @@ fn main() {
     group("refused 9 or 10", times.iter().filter(|t| t.answer > 8).collect());
     group("refused 1 to 8", times.iter().filter(|t| (1..=8).contains(&t.answer)).collect());
 
+    println!("THE CORPUS OF THE SECOND VERSION (seed 1, 400 random sheets and the named ones)");
+    let second: Vec<Times> = corpus::second_corpus(1, 400).iter().map(|sheet| build(sheet)).collect();
+    group("all", second.iter().collect());
+    group("accepted", second.iter().filter(|t| t.answer == 0).collect());
+    group("refused 9 or 10", second.iter().filter(|t| matches!(t.answer, 9 | 10)).collect());
+    group("refused 1 to 8 or 41", second.iter().filter(|t| matches!(t.answer, 1..=8 | 41)).collect());
+
     println!("BLOCKS IN A ROW, AND BLOCKS WITH EDGES TO ALL");
     for (name, sheets) in [("in a row", sheets::chains()), ("to all", sheets::dense())] {
         let times: Vec<Times> = sheets.iter().map(|sheet| build(sheet)).collect();
@@ -133,6 +141,19 @@ fn main() {
     }
     let yardstick =
         largest.iter().filter(|(_, t)| t.answer == 0).map(|(_, t)| t.library).fold(0.0, f64::max);
+
+    println!("THE LARGEST GRAPHS IN THE SECOND VERSION, WITH ONE BUDGET AND WITH FOUR (125, 250, 375, 500)");
+    for ((name, sheet), (_, first)) in sheets::largest().iter().zip(&largest) {
+        let [one, four] = sheets::with_one_and_four(sheet).map(|sheet| build(&sheet));
+        show(&format!("{name}, one budget"), &one);
+        show(&format!("{name}, four budgets"), &four);
+        println!(
+            "{name}: to the first version, one budget {:.2}, four {:.2}; four to one {:.2}",
+            one.library / first.library,
+            four.library / first.library,
+            four.library / one.library
+        );
+    }
 
     println!("EDGES SIDE BY SIDE, AND THE LEAST SHEETS");
     for (name, sheet) in &sheets::parallel() {
@@ -152,7 +173,12 @@ fn main() {
     for (name, times) in names.iter().zip(&worst) {
         show(name, times);
     }
-    let slowest = times.iter().chain(&worst).chain(largest.iter().map(|(_, t)| t)).fold(&worst[0], |a, b| {
+    println!("THE WORST SHEETS OF THE SECOND VERSION");
+    let second_worst: Vec<Times> = corpus::second_worst().iter().map(|sheet| build(sheet)).collect();
+    for (name, times) in names.iter().zip(&second_worst) {
+        show(&format!("{name}, four budgets"), times);
+    }
+    let slowest = times.iter().chain(&second).chain(&worst).chain(&second_worst).chain(largest.iter().map(|(_, t)| t)).fold(&worst[0], |a, b| {
         if b.library > a.library {
             b
         } else {
@@ -188,24 +214,48 @@ fn main() {
     let mut area = vec![7; gilstavo::MOST_AREA];
     let mut output = vec![9; gilstavo::MOST_OUTPUT];
     assert_eq!(raw::build(sheet, &mut area, &mut output), 0);
-    let filled = 3 + 3 * usize::from(output[0]) + 2 * usize::from(output[1]);
-    let bounded = &output[..filled];
-    let start = Walk { place: 1, count: 0, end: End::Going };
-    let kept_area = area.clone();
+    moves("first version", sheet, &mut area, &output[..filled_words(&output)], 1);
+    let [_, four] = sheets::with_one_and_four(sheet);
+    assert_eq!(raw::build(&four, &mut area, &mut output), 0);
+    moves("four budgets, the last", &four, &mut area, &output[..filled_words(&output)], 4);
+}
+
+/// The times of the starts with this budget number, and of the first moves behind them.
+fn moves(name: &str, sheet: &[u16], area: &mut [u8], bounded: &[u16], number: u16) {
+    let kept_area = area.to_vec();
+    let guarded = Walk { budget: u32::from(number), ..Walk::start() };
+    let walked = reference::start_bounded(bounded, u32::from(number)).1.expect("a budget number of the sheet");
+    let (guarded_row, bounded_row) = ([1, 0, 0, number], [walked.place as u16, 0, 0, number]);
+    // The area is lent to one call at a time.
+    let area = std::cell::RefCell::new(area);
     let took = timed(&mut [
         &mut || {
-            black_box(raw::guarded_move(black_box(sheet), &mut area, &mut [1, 0, 0], 1));
+            black_box(raw::guarded_move(black_box(sheet), &mut area.borrow_mut(), &mut guarded_row.clone(), 1));
         },
         &mut || {
-            black_box(reference::guarded_move(black_box(sheet), &kept_area, start, 1));
+            black_box(reference::guarded_move(black_box(sheet), &kept_area, guarded, 1));
         },
         &mut || {
-            black_box(raw::bounded_move(black_box(bounded), &mut [1, 0, 0], 1));
+            black_box(raw::bounded_move(black_box(bounded), &mut bounded_row.clone(), 1));
         },
         &mut || {
-            black_box(reference::bounded_move(black_box(bounded), start, 1));
+            black_box(reference::bounded_move(black_box(bounded), walked, 1));
+        },
+        &mut || {
+            black_box(raw::start_guarded(black_box(sheet), &mut area.borrow_mut(), &mut [0; 4], number));
+        },
+        &mut || {
+            black_box(reference::start_guarded(black_box(sheet), &kept_area, u32::from(number)));
+        },
+        &mut || {
+            black_box(raw::start_bounded(black_box(bounded), &mut [0; 4], number));
+        },
+        &mut || {
+            black_box(reference::start_bounded(black_box(bounded), u32::from(number)));
         },
     ]);
-    println!("a guarded move on a largest graph: {:.1} µs, reference {:.1}, ratio {:.2}", took[0], took[1], took[0] / took[1]);
-    println!("a bounded move on its bounded sheet: {:.1} µs, reference {:.1}, ratio {:.2}", took[2], took[3], took[2] / took[3]);
+    let calls = ["a guarded move on a largest graph", "a bounded move on its bounded sheet", "a guarded start", "a bounded start"];
+    for (call, pair) in calls.iter().zip(took.chunks(2)) {
+        println!("{call}, {name}: {:.1} µs, reference {:.1}, ratio {:.2}", pair[0], pair[1], pair[0] / pair[1]);
+    }
 }

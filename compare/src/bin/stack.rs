@@ -10,12 +10,20 @@ fn main() -> ExitCode {
         return ExitCode::from(2);
     };
     let mut sheets = reference::corpus::worst();
-    sheets.extend(sheets::largest().into_iter().map(|(_, sheet)| sheet));
+    sheets.extend(reference::corpus::second_worst());
+    for (_, sheet) in sheets::largest() {
+        let [_, four] = sheets::with_one_and_four(&sheet);
+        sheets.extend([sheet, four]);
+    }
     sheets.push(sheets::deepest());
+    sheets.push(reference::with_budgets(&sheets::deepest(), &[497, 498, 499, 500]));
     let mut failed = 0;
     for sheet in sheets {
         let wanted = reference::build(&sheet, &[7; gilstavo::MOST_AREA], &[9; gilstavo::MOST_OUTPUT]);
-        let (n, e, b) = (sheet[0], sheet[1], sheet[2]);
+        let heading = match sheet[0] {
+            0 => format!("N {} E {} B {:?}", sheet[1], sheet[2], &sheet[4..4 + usize::from(sheet[3])]),
+            _ => format!("N {} E {} B {}", sheet[0], sheet[1], sheet[2]),
+        };
         let mut area = vec![7; gilstavo::MOST_AREA];
         let mut output = vec![9; gilstavo::MOST_OUTPUT];
         let thread = std::thread::Builder::new().stack_size(size * 1024).spawn(move || {
@@ -28,7 +36,7 @@ fn main() -> ExitCode {
         };
         let same = (answer, &area, &output) == (wanted.answer, &wanted.area, &wanted.output);
         failed += u8::from(!same);
-        println!("N {n} E {e} B {b}: answer {answer}, {}", if same { "agrees" } else { "DIFFERS" });
+        println!("{heading}: answer {answer}, {}", if same { "agrees" } else { "DIFFERS" });
     }
     ExitCode::from(failed.min(1))
 }

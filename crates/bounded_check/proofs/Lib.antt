@@ -1,6 +1,6 @@
--- rule 11 in four parts: answer-is, form-is, form-formed
+-- rule 11 in its parts: form-is, header-there, answer-read; records-bad, entries-left
 pub mod Rule
--- the start copies, counted by a loop: starts-are
+-- the start copies, counted by a loop: one-more, other-block, starts-are
 pub mod Starts
 -- the budgets and the entries as parts of the sheet: budgets-are, entries-are
 pub mod Header

@@ -8,7 +8,8 @@ use native.Mathlib.Nat.{mul-le-mul}
 use lib.ListN.{length, getD, replicate, length-replicate}
 use Rattle.base.specs.Cells.{cellCount}
 use Rattle.formats.specs.Limits.{mostBlocks, mostBudget}
-use Rattle.formats.specs.GraphSheet.{Header, header, budgetIn}
+use Rattle.formats.specs.Versions.{largestIn}
+use Rattle.formats.specs.GraphSheet.{Header, header}
 use Rattle.formats.proofs.Accepted.{accepted}
 use Rattle.calls.specs.SheetGraph.{task}
 use Rattle.descend.specs.Marks.{Clear}
@@ -28,8 +29,8 @@ zeros-clear n i = go n i
     go (suc n) (suc i) = go n i
 
 -- the cells that were counted
-pub cells-are : (w : List ℕ) {h : Header} {b x : ℕ} → h ≡ header w → b ≡ budgetIn w → x ≡ cellCount (h .blocks) b
-    → x ≡ cellCount (header w .blocks) (budgetIn w)
+pub cells-are : (w : List ℕ) {h : Header} {b x : ℕ} → h ≡ header w → b ≡ largestIn w → x ≡ cellCount (h .blocks) b
+    → x ≡ cellCount (header w .blocks) (largestIn w)
 cells-are w p q e = e ∙ ap₂ cellCount (ap (λ (h : Header). h .blocks) p) q
 
 -- any sheet is within these
@@ -41,7 +42,7 @@ any-sheet {w} P =
       blocks = A .sound .form .blocks .1;
       edges = A .sound .form .edges .1;
       budget = A .budget;
-      cells = mul-le-mul {n₁ = header w .blocks} {m₁ = suc (budgetIn w)} {n₂ = mostBlocks} {m₂ = suc mostBudget} (A .sound .form .blocks .1)
+      cells = mul-le-mul {n₁ = header w .blocks} {m₁ = suc (largestIn w)} {n₂ = mostBlocks} {m₂ = suc mostBudget} (A .sound .form .blocks .1)
           (omega (arith, A .budget));
     }
 

@@ -10,7 +10,7 @@ ghost use Rattle.build_rows.specs.Within.{Passes};
 ghost use Rattle.build.specs.Sizes.{Within, Little};
 use build_rows::build_in_rows;
 use graph_row::ROW_WORDS;
-use headers::budget;
+use headers::largest;
 use headers::read_header;
 use tables::cell_count;
 use weigh_sheet::BLOCK_MASKS;
@@ -161,7 +161,7 @@ fn build_passed(s: &[u16], area: &mut [u8], out: &mut [u16]) -> u16
     ensures { λ _. ⌜ now (out .exit) ≡ built (now (s .entry)) (now (area .entry)) (now (out .entry)) .output ⌝ }
 {
     let h = read_header(s);
-    let b = budget(s);
+    let b = largest(s);
     let cells = cell_count(h.blocks, b);
     if is_small(h.blocks, h.edges, b, cells) {
         return build_small(s, area, out);
@@ -191,7 +191,7 @@ fn build_rest(s: &[u16], area: &mut [u8], out: &mut [u16]) -> u16
     ensures { λ _. ⌜ now (out .exit) ≡ built (now (s .entry)) (now (area .entry)) (now (out .entry)) .output ⌝ }
 {
     let h = read_header(s);
-    let b = budget(s);
+    let b = largest(s);
     let cells = cell_count(h.blocks, b);
     if cells <= MANY_CELLS {
         return build_wide(s, area, out);
@@ -225,7 +225,7 @@ pub fn build(s: &[u16], area: &mut [u8], out: &mut [u16]) -> u16
     if MOST_BLOCKS < h.blocks {
         return build_any(s, area, out);
     }
-    let b = budget(s);
+    let b = largest(s);
     if SOME_CELLS < h.blocks * (b + 1) {
         return build_any(s, area, out);
     }

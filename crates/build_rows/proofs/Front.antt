@@ -9,12 +9,12 @@ use lib.ListN.{length}
 use Rattle.base.specs.Lists.{any, from, member}
 use Rattle.base.specs.Checks.{refused, lentAfter}
 use Rattle.base.proofs.Orders.{append-stops, append-passes, over-stops, over-passes, refused-lent, tested, none-left}
-use Rattle.formats.specs.GraphSheet.{header, budgetIn}
-use Rattle.formats.specs.BoundedSheet.{heading}
+use Rattle.formats.specs.Versions.{isSecond, largestIn}
+use Rattle.formats.specs.GraphSheet.{header}
 use Rattle.calls.specs.SheetGraph.{task, boundedFor, boundedSheet, graph}
 use Rattle.calls.specs.Area.{filled}
 use Rattle.calls.specs.Weigh.{Weighing, nothingFits, fitOrder, frontOrder, weighOrder, beforeWeighing, areaAfter}
-use Rattle.calls.specs.Build.{Lent, tooMany, smallOutput, buildOrder, outputAfter, build, built}
+use Rattle.calls.specs.Build.{Lent, tooLarge, smallOutput, buildOrder, outputAfter, build, built}
 use Rattle.calls.proofs.Weigh.{weigh-numbered, front-numbered, front-early, spared, late-area}
 use Rattle.output.specs.Answer.{answerAt, outputAt}
 
@@ -50,7 +50,7 @@ module _ (w area out : List ℕ) where
       (rw (early, areaAfter)) (refused-lent out _ a n)
 
   -- THE FRONT PASSES
-  module _ (z : refused frontOrder front ≡ 0) {x : List ℕ} (f : x ≡ filled (graph w) (header w .blocks) (budgetIn w) area) where
+  module _ (z : refused frontOrder front ≡ 0) {x : List ℕ} (f : x ≡ filled (graph w) (header w .blocks) (largestIn w) area) where
     weigh-is : refused weighOrder front ≡ refused fitOrder front
     unfolding weighOrder
     weigh-is = append-passes frontOrder fitOrder front front-numbered z
@@ -72,7 +72,7 @@ module _ (w area out : List ℕ) where
 
     -- or passes too
     module _ (q : refused fitOrder front ≡ 0) where
-      passed : refused buildOrder lent ≡ answerAt (task w) (length out)
+      passed : refused buildOrder lent ≡ answerAt (isSecond w) (task w) (length out)
       unfolding buildOrder answerAt refused smallOutput boundedSheet
       passed = over-passes front-of weighOrder _ lent weigh-numbered (weigh-is ∙ q)
 
@@ -83,15 +83,15 @@ module _ (w area out : List ℕ) where
       late false true = spared 22
       late false false = spared 0
 
-      answer-late : beforeWeighing (answerAt (task w) (length out)) ≡ false
+      answer-late : beforeWeighing (answerAt (isSecond w) (task w) (length out)) ≡ false
       unfolding answerAt
-      answer-late = late (tooMany (heading (boundedFor (task w)))) (ltb (length out) (length (boundedFor (task w))))
+      answer-late = late (tooLarge (task w)) (ltb (length out) (length (boundedFor (isSecond w) (task w))))
 
-      same : (a : ℕ) → outputAt (task w) a out ≡ outputAfter w a out
+      same : (a : ℕ) → outputAt (isSecond w) (task w) a out ≡ outputAfter w a out
       unfolding boundedSheet lentAfter outputAfter outputAt
       same zero = refl
       same (suc a) = refl
 
-      pub fits : {a : ℕ} {y : List ℕ} → a ≡ answerAt (task w) (length out) → y ≡ outputAt (task w) a out → Builds a x y
+      pub fits : {a : ℕ} {y : List ℕ} → a ≡ answerAt (isSecond w) (task w) (length out) → y ≡ outputAt (isSecond w) (task w) a out → Builds a x y
       fits {a} e o =
           builds a (passed ∙ sym e) (f ∙ late-area w area a (ap beforeWeighing e ∙ answer-late)) (o ∙ same a)

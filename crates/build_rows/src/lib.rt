@@ -5,10 +5,11 @@ ghost use mathlib.Core.Bool.{false};
 ghost use Prim.Native.Nat.{suc, _-_, _≤_, _<_};
 ghost use lib.ListN.{length};
 ghost use Rattle.base.specs.Cells.{cellCount};
-ghost use Rattle.base.specs.Lists.{isNone};
+ghost use Rattle.base.specs.Lists.{isNone, lastOf};
 ghost use Rattle.theory.specs.Completions.{lowOf};
 ghost use Rattle.theory.specs.Tasks.{copiesIn};
-ghost use Rattle.formats.specs.Limits.{mostBudget, mostBoundedEdges};
+ghost use Rattle.formats.specs.Limits.{mostBoundedEdges};
+ghost use Rattle.formats.specs.Versions.{Claimed};
 ghost use Rattle.calls.specs.SheetGraph.{task};
 ghost use Rattle.calls.specs.Area.{Table};
 ghost use Rattle.calls.specs.Build.{built};
@@ -21,7 +22,9 @@ ghost use Rattle.output.specs.Answer.{answerAt, outputAt};
 ghost use Rattle.build_rows.specs.Within.{Passes};
 use descend::reach;
 use graph_row::blocks_in;
-use headers::budget;
+use headers::is_second;
+use headers::largest;
+use headers::read_budgets;
 use look::fill_lows;
 use number::number;
 use output::write_numbered;
@@ -30,49 +33,68 @@ use words::MOST_BOUNDED_EDGES;
 
 // BEHIND WEIGHING
 
-// Marks exactly the copies of a weighed graph within the budget b, and leaves the row of the look-up in the table.
+// Marks exactly the copies of a weighed graph within the budgets bs, of which b is the largest, and leaves the row of the look-up in the table.
 // Answers one more than the edges that there is room for beside those of the copies, 0 where there are too many.
-fn find_copies(row: &[u16], area: &[u8], table: &mut [u16], marks: &mut [u8], b: usize) -> usize
+fn find_copies(
+    row: &[u16],
+    area: &[u8],
+    table: &mut [u16],
+    marks: &mut [u8],
+    bs: &[u16],
+    b: usize,
+) -> usize
     requires { ⌜ Flat (now row) ⌝ }
-    requires { ⌜ (b ≤ mostBudget) × (isNone (lowOf (graphIn (now row)) 1 b) ≡ false) ⌝ }
+    requires { ⌜ Claimed (now bs) × (b ≡ lastOf (now bs)) × (isNone (lowOf (graphIn (now row)) 1 b) ≡ false) ⌝ }
     requires { ⌜ Table (graphIn (now row)) (blocksIn (now row)) b (now area) ⌝ }
     requires { ⌜ (cellCount (blocksIn (now row)) b ≤ length (now table)) × (cellCount (blocksIn (now row)) b ≤ length (now marks)) ⌝ }
     requires { ⌜ Clear (now marks) ⌝ }
     ensures { λ _. ⌜ (length (now (table .exit)) ≡ length (now (table .entry))) × (length (now (marks .exit)) ≡ length (now (marks .entry))) ⌝ }
     ensures { λ _. ⌜ Lows (lowOf (graphIn (now (row .entry)))) (blocksIn (now (row .entry))) b (now (table .exit)) ⌝ }
-    ensures { λ r. ⌜ r ≡ suc mostBoundedEdges - edgesOf (graphIn (now (row .entry))) (copiesIn (taskIn (now (row .entry)) b)) ⌝ }
-    ensures { λ r. ⌜ (0 < r → markedCopies (blocksIn (now (row .entry))) b (now (marks .exit)) ≡ copiesIn (taskIn (now (row .entry)) b)) ⌝ }
+    ensures { λ r. ⌜ r ≡ suc mostBoundedEdges - edgesOf (graphIn (now (row .entry))) (copiesIn (taskIn (now (row .entry)) (now (bs .entry)) b)) ⌝ }
+    ensures { λ r. ⌜ (0 < r → markedCopies (blocksIn (now (row .entry))) b (now (marks .exit)) ≡ copiesIn (taskIn (now (row .entry)) (now (bs .entry)) b)) ⌝ }
 {
     let n = blocks_in(row);
     fill_lows(area, table, n, b);
-    reach(row, table, marks, b)
+    reach(row, table, marks, bs, b)
 }
 
-// The bounded sheet of a weighed graph within the budget b, in rows that are lent: 10, 22, or 0 and the words in the output row.
+// The bounded sheet of a weighed graph within these budgets, in rows that are lent: 10, 22, or 0 and the words in the output row.
 fn build_weighed(
     row: &[u16],
     area: &[u8],
     table: &mut [u16],
     marks: &mut [u8],
     out: &mut [u16],
+    bs: &[u16],
+    second: bool,
     b: usize,
 ) -> u16
     requires { ⌜ Flat (now row) ⌝ }
-    requires { ⌜ (b ≤ mostBudget) × (isNone (lowOf (graphIn (now row)) 1 b) ≡ false) ⌝ }
+    requires { ⌜ Claimed (now bs) × (b ≡ lastOf (now bs)) × (isNone (lowOf (graphIn (now row)) 1 b) ≡ false) ⌝ }
     requires { ⌜ Table (graphIn (now row)) (blocksIn (now row)) b (now area) ⌝ }
     requires { ⌜ (cellCount (blocksIn (now row)) b ≤ length (now table)) × (cellCount (blocksIn (now row)) b ≤ length (now marks)) ⌝ }
     requires { ⌜ Clear (now marks) ⌝ }
-    ensures { λ r. ⌜ r ≡ answerAt (taskIn (now (row .entry)) b) (length (now (out .entry))) ⌝ }
-    ensures { λ r. ⌜ now (out .exit) ≡ outputAt (taskIn (now (row .entry)) b) r (now (out .entry)) ⌝ }
+    ensures { λ r. ⌜ r ≡ answerAt second (taskIn (now (row .entry)) (now (bs .entry)) b) (length (now (out .entry))) ⌝ }
+    ensures { λ r. ⌜ now (out .exit) ≡ outputAt second (taskIn (now (row .entry)) (now (bs .entry)) b) r (now (out .entry)) ⌝ }
 {
-    let room = find_copies(row, area, table, marks, b);
+    let room = find_copies(row, area, table, marks, bs, b);
     if room == 0 {
         return 10;
     }
     let edges = MOST_BOUNDED_EDGES + 1 - room;
     let n = blocks_in(row);
     let copies = number(marks, table, n, b);
-    write_numbered(row, marks, table, out, b, copies, edges)
+    write_numbered(
+        row,
+        marks,
+        table,
+        out,
+        bs,
+        second,
+        b,
+        copies,
+        edges,
+    )
 }
 
 // BEHIND 1 TO 8 AND 21
@@ -101,6 +123,19 @@ pub fn build_in_rows(
     if a != 0 {
         return a;
     }
-    let b = budget(s);
-    build_weighed(row, area, table, marks, out, b)
+    let b = largest(s);
+    let second = is_second(s);
+    let at = read_budgets(s);
+    let first = at.first;
+    let end = first + at.count;
+    build_weighed(
+        row,
+        area,
+        table,
+        marks,
+        out,
+        &s[first..end],
+        second,
+        b,
+    )
 }

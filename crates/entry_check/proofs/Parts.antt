@@ -1,5 +1,5 @@
 -- The clauses on the entries, by what their parts say.
--- Rests on formats Rule11, specs Entries.
+-- Rests on base Truth, formats Rule11, specs Entries.
 use mathlib.Core.Path.{_≡_, refl, sym, ap, _∙_}
 use mathlib.Core.Bool.{Bool, true, false, _&&_, _||_, not}
 use mathlib.Core.List.{List}

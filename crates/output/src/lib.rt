@@ -1,22 +1,23 @@
 // The bounded sheet of copies that are marked and numbered, in the output row: 10, 22, or 0 and its words. Below the public calls.
-// Rests on put_words, write.
+// Rests on heading_words, write.
 ghost use mathlib.Core.Path.{_≡_};
 ghost use mathlib.Core.Bool.{false};
 ghost use mathlib.Core.List.{_++_};
 ghost use Prim.Native.Nat.{_≤_};
 ghost use lib.ListN.{length, drop};
 ghost use Rattle.base.specs.Cells.{cellCount};
-ghost use Rattle.base.specs.Lists.{isNone};
+ghost use Rattle.base.specs.Lists.{isNone, lastOf};
 ghost use Rattle.theory.specs.Completions.{lowOf};
 ghost use Rattle.theory.specs.Tasks.{copiesIn};
-ghost use Rattle.formats.specs.Limits.{mostBudget, mostCopies, mostBoundedEdges};
+ghost use Rattle.formats.specs.Limits.{mostCopies, mostBoundedEdges};
+ghost use Rattle.formats.specs.Versions.{Claimed};
 ghost use Rattle.calls.specs.SheetGraph.{boundedFor};
 ghost use Rattle.tables.specs.Tables.{markedCopies, Numbers};
 ghost use Rattle.tables.specs.Rows.{edgesOf};
 ghost use Rattle.graph_row.specs.GraphRow.{blocksIn, graphIn, taskIn, Flat};
 ghost use Rattle.output.specs.Answer.{answerAt, outputAt};
-use headers::HEADING_WORDS;
-use put_words::put_three;
+use heading_words::heading_size;
+use heading_words::write_heading;
 use words::MOST_COPIES;
 use write::write_records;
 
@@ -26,22 +27,25 @@ fn write_sheet(
     marks: &[u8],
     numbers: &[u16],
     out: &mut [u16],
+    bs: &[u16],
+    second: bool,
     b: usize,
     copies: usize,
     edges: usize,
 )
     requires { ⌜ Flat (now row) ⌝ }
-    requires { ⌜ (b ≤ mostBudget) × (isNone (lowOf (graphIn (now row)) 1 b) ≡ false) ⌝ }
-    requires { ⌜ (cellCount (blocksIn (now row)) b ≤ length (now marks)) × (markedCopies (blocksIn (now row)) b (now marks) ≡ copiesIn (taskIn (now row) b)) ⌝ }
+    requires { ⌜ Claimed (now bs) × (b ≡ lastOf (now bs)) × (isNone (lowOf (graphIn (now row)) 1 b) ≡ false) ⌝ }
+    requires { ⌜ (cellCount (blocksIn (now row)) b ≤ length (now marks)) × (markedCopies (blocksIn (now row)) b (now marks) ≡ copiesIn (taskIn (now row) (now bs) b)) ⌝ }
     requires { ⌜ Numbers (lowOf (graphIn (now row))) (blocksIn (now row)) b (now marks) (now numbers) ⌝ }
-    requires { ⌜ (copies ≡ length (copiesIn (taskIn (now row) b))) × (copies ≤ mostCopies) ⌝ }
-    requires { ⌜ (edges ≡ edgesOf (graphIn (now row)) (copiesIn (taskIn (now row) b))) × (edges ≤ mostBoundedEdges) ⌝ }
-    requires { ⌜ length (boundedFor (taskIn (now row) b)) ≤ length (now out) ⌝ }
-    ensures { λ _. ⌜ now (out .exit) ≡ boundedFor (taskIn (now (row .entry)) b)
-        ++ drop (length (boundedFor (taskIn (now (row .entry)) b))) (now (out .entry)) ⌝ }
+    requires { ⌜ (copies ≡ length (copiesIn (taskIn (now row) (now bs) b))) × (copies ≤ mostCopies) ⌝ }
+    requires { ⌜ (edges ≡ edgesOf (graphIn (now row)) (copiesIn (taskIn (now row) (now bs) b))) × (edges ≤ mostBoundedEdges) ⌝ }
+    requires { ⌜ length (boundedFor second (taskIn (now row) (now bs) b)) ≤ length (now out) ⌝ }
+    ensures { λ _. ⌜ now (out .exit) ≡ boundedFor second (taskIn (now (row .entry)) (now (bs .entry)) b)
+        ++ drop (length (boundedFor second (taskIn (now (row .entry)) (now (bs .entry)) b))) (now (out .entry)) ⌝ }
 {
-    put_three(out, 0, copies, edges, b);
-    write_records(row, marks, numbers, out, b, HEADING_WORDS, copies);
+    let at = heading_size(second, bs.len());
+    write_heading(row, marks, numbers, out, bs, second, b, copies, edges);
+    write_records(row, marks, numbers, out, b, at, copies);
 }
 
 // With the copies marked and numbered and their edges few enough: 10 for the copies, 22, or 0 and the words in the output row.
@@ -50,25 +54,38 @@ pub fn write_numbered(
     marks: &[u8],
     numbers: &[u16],
     out: &mut [u16],
+    bs: &[u16],
+    second: bool,
     b: usize,
     copies: usize,
     edges: usize,
 ) -> u16
     requires { ⌜ Flat (now row) ⌝ }
-    requires { ⌜ (b ≤ mostBudget) × (isNone (lowOf (graphIn (now row)) 1 b) ≡ false) ⌝ }
-    requires { ⌜ (cellCount (blocksIn (now row)) b ≤ length (now marks)) × (markedCopies (blocksIn (now row)) b (now marks) ≡ copiesIn (taskIn (now row) b)) ⌝ }
+    requires { ⌜ Claimed (now bs) × (b ≡ lastOf (now bs)) × (isNone (lowOf (graphIn (now row)) 1 b) ≡ false) ⌝ }
+    requires { ⌜ (cellCount (blocksIn (now row)) b ≤ length (now marks)) × (markedCopies (blocksIn (now row)) b (now marks) ≡ copiesIn (taskIn (now row) (now bs) b)) ⌝ }
     requires { ⌜ Numbers (lowOf (graphIn (now row))) (blocksIn (now row)) b (now marks) (now numbers) ⌝ }
-    requires { ⌜ copies ≡ length (copiesIn (taskIn (now row) b)) ⌝ }
-    requires { ⌜ (edges ≡ edgesOf (graphIn (now row)) (copiesIn (taskIn (now row) b))) × (edges ≤ mostBoundedEdges) ⌝ }
-    ensures { λ r. ⌜ r ≡ answerAt (taskIn (now (row .entry)) b) (length (now (out .entry))) ⌝ }
-    ensures { λ r. ⌜ now (out .exit) ≡ outputAt (taskIn (now (row .entry)) b) r (now (out .entry)) ⌝ }
+    requires { ⌜ copies ≡ length (copiesIn (taskIn (now row) (now bs) b)) ⌝ }
+    requires { ⌜ (edges ≡ edgesOf (graphIn (now row)) (copiesIn (taskIn (now row) (now bs) b))) × (edges ≤ mostBoundedEdges) ⌝ }
+    ensures { λ r. ⌜ r ≡ answerAt second (taskIn (now (row .entry)) (now (bs .entry)) b) (length (now (out .entry))) ⌝ }
+    ensures { λ r. ⌜ now (out .exit) ≡ outputAt second (taskIn (now (row .entry)) (now (bs .entry)) b) r (now (out .entry)) ⌝ }
 {
     if MOST_COPIES < copies {
         return 10;
     }
-    if out.len() < HEADING_WORDS + 3 * copies + 2 * edges {
+    let size = heading_size(second, bs.len());
+    if out.len() < size + 3 * copies + 2 * edges {
         return 22;
     }
-    write_sheet(row, marks, numbers, out, b, copies, edges);
+    write_sheet(
+        row,
+        marks,
+        numbers,
+        out,
+        bs,
+        second,
+        b,
+        copies,
+        edges,
+    );
     0
 }

@@ -1,2 +1,2 @@
--- words put into a row: put-none, put-length, put-more, three, two
+-- words put into a row: put-none, put-length, put-more, one, two, three, Putting
 pub mod Put

@@ -1,4 +1,4 @@
-// Words put into a lent row, two or three at once.
+// Words put into a lent row, one, two or three at once.
 // Rests on nothing; a row with words put into it is said by specs Put.
 ghost use mathlib.Core.Path.{_≡_};
 ghost use mathlib.Core.List.{[], _∷_};
@@ -24,4 +24,12 @@ pub fn put_two(out: &mut [u16], at: usize, x: usize, y: usize)
 {
     out[at] = x as u16;
     out[at + 1] = y as u16;
+}
+
+// Puts one word.
+pub fn put_one(out: &mut [u16], at: usize, x: usize)
+    requires { ⌜ (at < length (now out)) × (x < wordLimit) ⌝ }
+    ensures { λ _. ⌜ now (out .exit) ≡ putWords (now (out .entry)) at (x ∷ []) ⌝ }
+{
+    out[at] = x as u16;
 }

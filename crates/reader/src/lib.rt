@@ -63,7 +63,7 @@ pub fn edge_words_place(s: &[u16], i: u16) -> Place
             size: 0,
         };
     }
-    place_of(s, h.records, h.copies, h.edges, h.budget, i as usize)
+    place_of(s, h.records, h.copies, h.edges, h.largest, i as usize)
 }
 
 // The edge records of copy i, a part of the caller's sheet; empty for the exit and under a refusal, which the answer tells apart.

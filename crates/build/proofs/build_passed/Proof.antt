@@ -12,20 +12,20 @@ use Rattle.build.proofs.build_passed.Tie as tie
 read-header-requires : tie.Need-read-header-requires
 read-header-requires c κs = accepted _ (c .before .before .before .pre .0 .ok) .long
 
-budget-requires : tie.Need-budget-requires
-budget-requires c κs = accepted _ (c .before .before .before .before .pre .0 .ok) .long
+largest-requires : tie.Need-largest-requires
+largest-requires c κs = accepted _ (c .before .before .before .before .pre .0 .ok) .long
 
 cell-count-requires : tie.Need-cell-count-requires
 cell-count-requires c κs =
     let A = accepted _ (c .before .before .before .before .before .pre .0 .ok) in
     let n = ap (λ (h : Header). h .blocks) (c .before .read-header .ensures .0) in
-    (omega (arith, n, A .sound .form .blocks), omega (arith, A .budget, c .budget .ensures .0))
+    (omega (arith, n, A .sound .form .blocks), omega (arith, A .budget, c .largest .ensures .0))
 
 build-small-requires : tie.Need-build-small-requires
 build-small-requires c κs =
     let z = c .before .before .before .before .before .before .before .before .before .before in
     let h = c .before .before .before .before .before .before .read-header .ensures .0 in
-    let b = c .before .before .before .before .before .budget .ensures .0 in
+    let b = c .before .before .before .before .before .largest .ensures .0 in
     let k = c .before .before .before .is-small .ensures (c .before .before .if1 .taken) in (
       z .pre .0,
       record {
@@ -50,7 +50,7 @@ build-passed-spec =
     tie.close
     (tie.spec
     read-header-requires
-    budget-requires
+    largest-requires
     cell-count-requires
     (λ c κs. search needs)
     build-small-requires

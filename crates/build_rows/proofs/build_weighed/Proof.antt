@@ -1,10 +1,11 @@
 -- 10 by the edges, else what `write_numbered` answers.
--- Rests on output Answers.
+-- Rests on formats Budgets, output Answers.
 -- what the call is given, seen from where the copies are found, and that from where their blocks are counted
 use borrow.Author.Needs.{needs}
 use mathlib.Core.Path.{refl, ap, _∙_}
 use native.Mathlib.Omega.{arith}
 use lib.ListN.{length}
+use Rattle.formats.proofs.Budgets.{largest-small}
 use Rattle.graph_row.specs.GraphRow.{taskIn}
 use Rattle.output.specs.Answer.{outputAt}
 use Rattle.output.proofs.Answers.{many-edges}
@@ -13,21 +14,21 @@ use Rattle.build_rows.proofs.build_weighed.Tie as tie
 
 module _ (f : tie.After-find-copies) where
   abbrev start : tie.Start
-  start = f .before .before .before .before .before .before .before .before
+  start = f .before .before .before .before .before .before .before .before .before
 
 module _ (n : tie.After-blocks-in) where
   abbrev found : tie.After-find-copies
   found = n .before .before .before .before .before .before
 
 find-copies-requires : tie.Need-find-copies-requires
-find-copies-requires c κs = c .before .before .before .before .before .before .before .pre
+find-copies-requires c κs = c .before .before .before .before .before .before .before .before .pre
 
 returns : tie.Need-returns
 unfolding outputAt
 returns c =
     let f = c .before .before .before .before .before in
     let a = start f .args in
-    (many-edges (taskIn (a .row .now) (a .b)) (length (a .out .now)) (omega (arith, f .find-copies .ensures .1 .1 .0)), refl)
+    (many-edges (a .second) (taskIn (a .row .now) (a .bs .now) (a .b)) (length (a .out .now)) (omega (arith, f .find-copies .ensures .1 .1 .0)), refl)
 
 sub-edges : tie.Need-sub-edges
 sub-edges c = omega (arith, c .before .before .before .before .before .find-copies .ensures .1 .1 .0)
@@ -42,7 +43,7 @@ number-requires c κs =
     let f = found n .find-copies .ensures in
     let room = p .1 .1 .1 .0 in
     rw (n .blocks-in .ensures .0) (
-      (p .0 .blocks .1, p .1 .0 .0),
+      (p .0 .blocks .1, omega (arith, p .1 .0 .1, largest-small (p .1 .0 .0))),
       (omega (arith, f .0 .1, room .1), omega (arith, f .0 .0, room .0)),
     )
 

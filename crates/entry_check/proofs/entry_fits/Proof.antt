@@ -1,5 +1,5 @@
 -- An entry that is 0, or one that is tested against the copies, its block, and its low.
--- Rests on Parts.
+-- Rests on base Orders, Parts.
 use borrow.Author.Needs.{needs}
 use mathlib.Core.Path.{sym, _∙_}
 use native.Mathlib.Omega.{arith}

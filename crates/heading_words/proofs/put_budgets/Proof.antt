@@ -1,0 +1,54 @@
+-- `heading_words::put_budgets`, word by word.
+-- Rests on put_words Put.
+use borrow.Author.Needs.{needs}
+use mathlib.Core.Path.{refl}
+use Prim.Native.Nat.{ℕ, _-_}
+use native.Mathlib.Omega.{arith}
+use lib.ListN.{length}
+use Rattle.put_words.proofs.Put.{Putting, putting, putting-length, putting-on, put-all}
+use Rattle.heading_words.proofs.put_budgets.Statement.{statement}
+use Rattle.heading_words.proofs.put_budgets.Tie as tie
+
+abbrev Inv-loop : tie.InvT-loop
+Inv-loop out₀ at bs i₀ out i = Putting out₀ at bs i out
+
+abbrev μ-loop : tie.MeasureT-loop
+μ-loop out₀ at bs i₀ out i = length bs - i
+
+loop-holds : tie.Need-loop-holds Inv-loop μ-loop
+loop-holds c = putting (c .before .before .pre)
+
+add-put-one : tie.Need-add-put-one Inv-loop μ-loop
+add-put-one c =
+    let P = c .before .before .before .loop .inv in
+    record { fits = omega (arith, P .room, c .before .before .loop-test .taken, c .before .before .before .before .before .before .good .0) }
+
+put-one-requires : tie.Need-put-one-requires Inv-loop μ-loop
+put-one-requires c κs =
+    let P = c .before .before .before .loop .inv in
+    (omega (arith, c .before .before .loop-test .taken, P .room, putting-length P), c .before .word-at .ensures .1)
+
+loop-again : tie.Need-loop-again Inv-loop μ-loop
+loop-again c = putting-on (c .before .before .before .before .before .before .loop .inv) (c .before .before .before .before .before .loop-test .taken) (c .before .before .before .before .word-at .ensures .0) (c .before .before .put-one .ensures)
+
+same-length : tie.Need-same-length Inv-loop μ-loop
+same-length c = putting-length (c .before .loop .inv)
+
+returns : tie.Need-returns Inv-loop μ-loop
+returns c = put-all (c .before .loop .inv) (omega (arith, c .loop-test .left))
+
+pub put-budgets-spec : {M : Type 1} → statement M
+put-budgets-spec =
+    tie.close
+    (tie.spec
+    Inv-loop
+    μ-loop
+    loop-holds
+    (λ c κs. search needs)
+    add-put-one
+    put-one-requires
+    (λ c. search needs)
+    (λ c. search needs)
+    loop-again
+    same-length
+    returns)
