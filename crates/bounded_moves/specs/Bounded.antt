@@ -5,6 +5,6 @@ use Prim.Native.Nat.{ℕ}
 use Rattle.theory.specs.Walks.{Bounded}
 use Rattle.formats.specs.BoundedSheet.{Heading, blockAt, targetsAt}
 
--- behind any header, as calls SheetGraph readBounded has it behind the sheet's own; the exit's place is 2
-abbrev pub boundedAt : Heading → List ℕ → Bounded
-boundedAt h s = record { size = h .copies; block = blockAt h s; next = targetsAt h s; last = 2 }
+-- behind any header, with the exit's place, as calls SheetGraph readBounded has it behind the sheet's own
+abbrev pub boundedAt : Heading → ℕ → List ℕ → Bounded
+boundedAt h x s = record { size = h .copies; block = blockAt h s; next = targetsAt h s; last = x }

@@ -1,32 +1,33 @@
--- The call, case by case: the sheet is refused, the walk is out of shape, the monitor replies.
--- Rests on calls Weigh, Moves and Area, weigh_sheet Answers, walk Shape and Replies.
+-- The call, case by case: the sheet is refused, the budget's number or the walk is out of shape, the monitor replies.
+-- Rests on base Truth, calls Weigh and Moves, weigh_sheet Answers, walk Shape and Replies, Weighed.
 use mathlib.Core.Path.{_≡_, sym, ap, _∙_}
 use mathlib.Core.Bool.{Bool, true, false}
 use mathlib.Core.List.{List}
-use Prim.Native.Nat.{ℕ}
-use Rattle.base.specs.Lists.{any, from, member}
+use Prim.Native.Nat.{ℕ, _≤_}
+use lib.ListN.{length}
+use Rattle.base.specs.Lists.{any, from, member, nth}
+use Rattle.base.specs.Checks.{outside}
+use Rattle.base.proofs.Truth.{or-l, or-r}
 use Rattle.theory.specs.Machines.{Reply, Machine, reply}
 use Rattle.theory.specs.Walks.{Walk, InShape, monitor}
-use Rattle.formats.specs.GraphSheet.{budgetIn, header}
+use Rattle.formats.specs.Versions.{budgetsIn, largestIn}
+use Rattle.formats.specs.GraphSheet.{header}
 use Rattle.calls.specs.SheetGraph.{task, graph}
-use Rattle.calls.specs.Area.{filled, Table}
-use Rattle.calls.specs.Weigh.{Weighing, taskArea, weighOrder, beforeWeighing, areaAfter, weighed}
-use Rattle.calls.specs.Moves.{outOfShape, Move, GuardedInput, onGraph, guardedOrder, guardedReply, guardedMove}
-use Rattle.calls.proofs.Area.{filled-table}
-use Rattle.calls.proofs.Weigh.{Passed, weigh-numbered, weighs-e, spared, late-area}
+use Rattle.calls.specs.Area.{filled}
+use Rattle.calls.specs.Weigh.{Weighing, weighOrder, beforeWeighing, areaAfter, weighed}
+use Rattle.calls.specs.Moves.{Budgeted, replyWith, outOfShape, badWalk, Move, GuardedInput, onGraph, guardedOrder, guardedReply, guardedMove}
+use Rattle.calls.proofs.Weigh.{weigh-numbered, spared}
 use Rattle.calls.proofs.Moves.{sheet-refuses, shape-refuses, guarded-as}
 use Rattle.graph_row.specs.GraphRow.{blocksIn, graphIn}
 use Rattle.flatten.specs.Decoded.{Decoded}
 use Rattle.weigh_sheet.proofs.Answers.{Weighs}
 use Rattle.walk.proofs.Shape.{shape-of}
 use Rattle.walk.proofs.Replies.{reply-late}
+use Rattle.guarded_moves.proofs.Weighed.{area-is, passed, late}
 
-module _ (w area : List ℕ) (s : Walk) (k : ℕ) where
+module _ (w area : List ℕ) (s : Budgeted) (k : ℕ) where
   abbrev given : Move
   given = record { choice = k; area = area }
-
-  abbrev lent : Weighing
-  lent = record { sheet = w; area = area }
 
   abbrev input : GuardedInput
   input = record { sheet = w; area = area; walk = s; choice = k }
@@ -34,66 +35,68 @@ module _ (w area : List ℕ) (s : Walk) (k : ℕ) where
   abbrev weighing-of : GuardedInput → Weighing
   weighing-of i = record { sheet = i .sheet; area = i .area }
 
+  -- the walk's budget, and the monitor
+  abbrev B : ℕ
+  B = nth (budgetsIn w) (s .number)
+
   abbrev machine : Machine Walk ℕ
-  machine = monitor (graph w) (budgetIn w)
+  machine = monitor (graph w) B
 
   -- an answer, a walk and an area are those of the call
-  abbrev pub Guarded : ℕ → Walk → List ℕ → Type 0
+  abbrev pub Guarded : ℕ → Budgeted → List ℕ → Type 0
   Guarded a s′ after =
       (a ≡ guardedMove w s given .answer) × ((s′ ≡ guardedMove w s given .walk) × (after ≡ guardedMove w s given .area))
 
-  guarded : (r : Reply Walk) {after : List ℕ} → guardedReply w s given ≡ r → after ≡ areaAfter (task w) (r .answer) area
+  guarded : (r : Reply Budgeted) {after : List ℕ} → guardedReply w s given ≡ r → after ≡ areaAfter (task w) (r .answer) area
       → Guarded (r .answer) (r .after) after
   unfolding guardedMove
   guarded r e q = (
-    ap (λ (x : Reply Walk). x .answer) (sym e),
-    (ap (λ (x : Reply Walk). x .after) (sym e), q ∙ ap (λ (x : Reply Walk). areaAfter (task w) (x .answer) area) (sym e)),
+    ap (λ (x : Reply Budgeted). x .answer) (sym e),
+    (ap (λ (x : Reply Budgeted). x .after) (sym e), q ∙ ap (λ (x : Reply Budgeted). areaAfter (task w) (x .answer) area) (sym e)),
   )
 
   -- weighing's answer a and the area after it
   module _ {a : ℕ} {after : List ℕ} (W : Weighs w area a after) where
-    area-is : after ≡ areaAfter (task w) a area
-    unfolding weighed
-    area-is = W .1 ∙ ap (λ (x : ℕ). areaAfter (task w) x area) (sym (W .0))
-
     pub weigh-refused : (a ≡ 0 → ⊥) → Guarded a s after
     unfolding guardedReply guardedOrder weighed
     weigh-refused n =
-        guarded (record { answer = a; after = s }) (sheet-refuses machine weighing-of weighOrder weigh-numbered onGraph input (W .0) n) area-is
+        guarded (record { answer = a; after = s }) (sheet-refuses machine weighing-of weighOrder weigh-numbered onGraph input (W .0) n)
+        (area-is w area W)
 
-    -- it is 0, the area is filled, and the row holds the sheet's graph
-    module _ (z : a ≡ 0) (f : after ≡ filled (graph w) (header w .blocks) (budgetIn w) area) {row : List ℕ} (D : Decoded (header w) w row) where
-      passed : Passed w area
-      unfolding weighed
-      passed = weighs-e lent (sym (W .0) ∙ z)
+    -- it is 0, and the area is filled
+    module _ (z : a ≡ 0) (f : after ≡ filled (graph w) (header w .blocks) (largestIn w) area) where
+      refused-33 : badWalk (onGraph input) ≡ true → Guarded 33 s after
+      unfolding guardedReply guardedOrder weighed any member from
+      refused-33 h =
+          guarded (record { answer = 33; after = s })
+          (shape-refuses machine weighing-of weighOrder weigh-numbered onGraph input (sym (W .0) ∙ z) h) (late w area W z f 33 (spared 33))
 
-      late : (c : ℕ) → beforeWeighing c ≡ false → after ≡ areaAfter (task w) c area
-      late c g = f ∙ late-area w area c g
+      pub number-refused : outside 1 (length (budgetsIn w)) (s .number) ≡ true → Guarded 33 s after
+      unfolding badWalk
+      number-refused h = refused-33 (or-l _ h)
 
-      pub area-table : {b : ℕ} → b ≡ budgetIn w → Table (graphIn row) (blocksIn row) b after
-      unfolding taskArea
-      area-table e =
-          rw (D .same, D .blocks, e, f) (filled-table (graph w) (header w .blocks) (budgetIn w) area (passed .room))
-
-      -- the walk's shape, as it is tested
-      module _ {n b : ℕ} {t : Bool} (e : n ≡ blocksIn row) (q : b ≡ budgetIn w) (g : t ≡ outOfShape n 2 b s) where
-        tested-is : {c : Bool} → t ≡ c → outOfShape (header w .blocks) 2 (budgetIn w) s ≡ c
+      -- the row holds the sheet's graph, and the walk's shape is tested with its budget b
+      module _ {row : List ℕ} (D : Decoded (header w) w row) {n b : ℕ} {t : Bool} (e : n ≡ blocksIn row) (q : b ≡ nth (budgetsIn w) (s .number))
+          (g : t ≡ outOfShape n 2 b (s .walk)) where
+        tested-is : {c : Bool} → t ≡ c → outOfShape (header w .blocks) 2 B (s .walk) ≡ c
         tested-is h = rw (e, D .blocks, q) at (sym g ∙ h)
 
-        sheet-shape : t ≡ false → InShape (header w .blocks) 2 (budgetIn w) s
-        sheet-shape h = shape-of (header w .blocks) 2 (budgetIn w) s (tested-is h)
+        sheet-shape : t ≡ false → InShape (header w .blocks) 2 B (s .walk)
+        sheet-shape h = shape-of (header w .blocks) 2 B (s .walk) (tested-is h)
 
         pub shape-refused : t ≡ true → Guarded 33 s after
-        unfolding guardedReply guardedOrder weighed any member from
-        shape-refused h =
-            guarded (record { answer = 33; after = s })
-            (shape-refuses machine weighing-of weighOrder weigh-numbered onGraph input (sym (W .0) ∙ z) (tested-is h)) (late 33 (spared 33))
+        unfolding badWalk
+        shape-refused h = refused-33 (or-r (outside 1 (length (budgetsIn w)) (s .number)) (tested-is h))
 
-        pub in-shape : t ≡ false → InShape (blocksIn row) 2 b s
+        pub in-shape : t ≡ false → InShape (blocksIn row) 2 b (s .walk)
         in-shape h = rw (D .blocks, q) (sheet-shape h)
 
-        pub monitor-replies : t ≡ false → (m : Reply Walk) → m ≡ reply (monitor (graphIn row) b) s k → Guarded (m .answer) (m .after) after
-        monitor-replies h m x =
-            let y : m ≡ reply (monitor (graph w) (budgetIn w)) s k = rw (D .same, q) at x in
-            let o = guarded-as w given s (passed .start) (passed .ok) (passed .room) (passed .opens) (sheet-shape h) in
-            guarded m (o ∙ sym y) (late (m .answer) (ap (λ (v : Reply Walk). beforeWeighing (v .answer)) y ∙ reply-late _ s k))
+        pub monitor-replies : (1 ≤ s .number) × (s .number ≤ length (budgetsIn w)) → t ≡ false
+            → (m : Reply Budgeted) → m ≡ replyWith (s .number) (reply (monitor (graphIn row) b) (s .walk) k)
+            → Guarded (m .answer) (m .after) after
+        monitor-replies p h m x =
+            let y : m ≡ replyWith (s .number) (reply machine (s .walk) k) = rw (D .same, q) at x in
+            let P = passed w area W z in
+            let o = guarded-as w given s (P .start) (P .ok) (P .room) (P .opens) (p .0) (p .1) (sheet-shape h) in
+            guarded m (o ∙ sym y)
+            (late w area W z f (m .answer) (ap (λ (v : Reply Budgeted). beforeWeighing (v .answer)) y ∙ reply-late machine (s .walk) k))

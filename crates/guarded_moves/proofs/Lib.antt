@@ -4,5 +4,7 @@
 pub mod Choices
 -- the monitor's reply, case by case: ended, unchosen, count-fits, diverts, enters
 pub mod Replies
--- what the call answers where the sheet is refused, where the walk is out of shape, and where the monitor replies
+-- what moves and starts have of a weighed sheet: passed, late, sheet-table, area-table; of a budget by its number: number-is, counted, listed, within
+pub mod Weighed
+-- what the call answers where the sheet is refused, where the budget or the walk is out of shape, and where the monitor replies
 pub mod Answers

@@ -1,5 +1,5 @@
 // A public call: a guarded move on a graph sheet, with the walk by value.
-// Rests on weigh_sheet, graph_row, look, walk; the promise is calls Moves.
+// Rests on weigh_sheet, headers, graph_row, look, walk; the promise is calls Moves.
 ghost use mathlib.Core.Path.{_≡_};
 ghost use Prim.Native.Nat.{_≤_};
 ghost use lib.ListN.{length};
@@ -10,15 +10,17 @@ ghost use Rattle.formats.specs.GraphSheet.{sheetRefusal};
 ghost use Rattle.calls.specs.SheetGraph.{task};
 ghost use Rattle.calls.specs.Area.{Table};
 ghost use Rattle.calls.specs.Weigh.{taskArea};
-ghost use Rattle.calls.specs.Moves.{guardedMove};
+ghost use Rattle.calls.specs.Moves.{replyWith, guardedMove};
 ghost use Rattle.graph_row.specs.GraphRow.{blocksIn, graphIn, Flat};
-ghost use Rattle.walk.specs.Walks.{walkOf, replyOf};
+ghost use Rattle.walk.specs.Walks.{stateOf, walkOf, replyOf};
 use graph_row::ROW_WORDS;
 use graph_row::blocks_in;
 use graph_row::cost_in;
 use graph_row::degree_in;
 use graph_row::start_in;
 use headers::budget;
+use headers::largest;
+use headers::read_budgets;
 use look::look_up;
 use walk::Moved;
 use walk::Walk;
@@ -40,12 +42,13 @@ const ENDED: u16 = 32;
 
 const OUT_OF_SHAPE: u16 = 33;
 
-// The monitor's reply to a choice, for a walk in shape: 32 after the end, 31 for no such choice, else 0 and the walk after the edge.
-fn monitor_reply(row: &[u16], area: &[u8], b: usize, w: Walk, choice: usize) -> Moved
+// The monitor's reply to a choice, for a walk in shape with the budget b: 32 after the end, 31 for no such choice, else 0 and the walk after
+// the edge. The area is laid out for the largest budget l.
+fn monitor_reply(row: &[u16], area: &[u8], l: usize, b: usize, w: Walk, choice: usize) -> Moved
     requires { ⌜ Flat (now row) ⌝ }
-    requires { ⌜ Table (graphIn (now row)) (blocksIn (now row)) b (now area) ⌝ }
-    requires { ⌜ (b ≤ mostBudget) × InShape (blocksIn (now row)) 2 b (walkOf w) ⌝ }
-    ensures { λ r. ⌜ replyOf r ≡ reply (monitor (graphIn (now (row .entry))) b) (walkOf w) choice ⌝ }
+    requires { ⌜ Table (graphIn (now row)) (blocksIn (now row)) l (now area) ⌝ }
+    requires { ⌜ (b ≤ l) × (l ≤ mostBudget) × InShape (blocksIn (now row)) 2 b (stateOf w) ⌝ }
+    ensures { λ r. ⌜ replyOf r ≡ replyWith (w .budget) (reply (monitor (graphIn (now (row .entry))) b) (stateOf w) choice) ⌝ }
 {
     let end = w.end;
     if has_ended(end) {
@@ -65,7 +68,7 @@ fn monitor_reply(row: &[u16], area: &[u8], b: usize, w: Walk, choice: usize) -> 
     let a = start_in(row, v);
     let t = word_at(row, a + (choice - 1));
     let count = w.count as usize;
-    let fitting = look_up(area, b, t, b - count);
+    let fitting = look_up(area, l, t, b - count);
     if fitting.low == 0 {
         let after = divert(w, w.count);
         return Moved {
@@ -74,15 +77,15 @@ fn monitor_reply(row: &[u16], area: &[u8], b: usize, w: Walk, choice: usize) -> 
         };
     }
     let cost = cost_in(row, t);
-    let after = enter(t, count + cost);
+    let after = enter(t, Walk::EXIT_PLACE, count + cost, w.budget);
     Moved {
         answer: 0,
         walk: after,
     }
 }
 
-// A move on a sheet that passes 1 to 8, with area enough: it is decoded and weighed into the area, 9, the walk is checked, and the monitor
-// replies.
+// A move on a sheet that passes 1 to 8, with area enough: it is decoded and weighed into the area, 9, the budget's number and the walk are
+// checked, and the monitor replies.
 fn guard(s: &[u16], area: &mut [u8], w: Walk, choice: u16) -> Moved
     requires { ⌜ (sheetRefusal (now s) ≡ 0) × (taskArea (task (now s)) ≤ length (now area)) ⌝ }
     ensures { λ r. ⌜ r .answer
@@ -99,15 +102,24 @@ fn guard(s: &[u16], area: &mut [u8], w: Walk, choice: u16) -> Moved
     if a != 0 {
         return Moved { answer: a, walk: w };
     }
+    let at = read_budgets(s);
+    let k = w.budget as usize;
+    if is_outside(1, at.count, k) {
+        return Moved {
+            answer: OUT_OF_SHAPE,
+            walk: w,
+        };
+    }
     let n = blocks_in(&row);
-    let b = budget(s);
+    let b = budget(s, k);
     if out_of_shape(n, Walk::EXIT_PLACE, b, w) {
         return Moved {
             answer: OUT_OF_SHAPE,
             walk: w,
         };
     }
-    monitor_reply(&row, area, b, w, choice as usize)
+    let l = largest(s);
+    monitor_reply(&row, area, l, b, w, choice as usize)
 }
 
 // A guarded move: the sheet and the area's length are checked, then the rest.

@@ -1,4 +1,4 @@
--- What the two proofs by hand share: a walk's machine values, the steps at a lent walk, and a goal of several clauses.
+-- What the proofs by hand share: a walk's machine values, the steps at a lent walk, and a goal of several clauses.
 -- Rests on walk's types. Assumes nothing.
 use mathlib.Core.Path.{refl}
 use mathlib.Core.List.{List, [], _∷_}

@@ -1,11 +1,39 @@
-// Public calls: the two moves on a lent walk, which is changed where it stands.
-// Rests on guarded_moves and bounded_moves, whose moves take the walk by value; the promises are calls Moves.
+// Public calls: the two starts and the two moves on a lent walk, which is changed where it stands.
+// Rests on guarded_starts, bounded_starts, guarded_moves and bounded_moves, whose calls take the walk by value; the promises are calls Starts and
+// Moves.
 ghost use mathlib.Core.Path.{_≡_};
 ghost use Rattle.calls.specs.Moves.{guardedMove, boundedMove};
+ghost use Rattle.calls.specs.Starts.{guardedStart, boundedStart};
 ghost use Rattle.walk.specs.Walks.{walkOf};
 use bounded_moves::bounded_move;
+use bounded_starts::start_bounded;
 use guarded_moves::guarded_move;
+use guarded_starts::start_guarded;
 use walk::Walk;
+
+// A guarded start in place.
+pub fn start_guarded_in_place(s: &[u16], area: &mut [u8], w: &mut Walk, budget: u16) -> u16
+    ensures { λ r. ⌜ r
+        ≡ guardedStart (now (s .entry)) (walkOf (now (w .entry))) (record { number = budget; area = now (area .entry) }) .answer ⌝ }
+    ensures { λ _. ⌜ walkOf (now (w .exit))
+        ≡ guardedStart (now (s .entry)) (walkOf (now (w .entry))) (record { number = budget; area = now (area .entry) }) .walk ⌝ }
+    ensures { λ _. ⌜ now (area .exit)
+        ≡ guardedStart (now (s .entry)) (walkOf (now (w .entry))) (record { number = budget; area = now (area .entry) }) .area ⌝ }
+{
+    let first = start_guarded(s, area, *w, budget);
+    *w = first.walk;
+    first.answer
+}
+
+// A bounded start in place.
+pub fn start_bounded_in_place(t: &[u16], w: &mut Walk, budget: u16) -> u16
+    ensures { λ r. ⌜ r ≡ boundedStart (now (t .entry)) (walkOf (now (w .entry))) budget .answer ⌝ }
+    ensures { λ _. ⌜ walkOf (now (w .exit)) ≡ boundedStart (now (t .entry)) (walkOf (now (w .entry))) budget .after ⌝ }
+{
+    let entered = start_bounded(t, *w, budget);
+    *w = entered.walk;
+    entered.answer
+}
 
 // A guarded move in place.
 pub fn guarded_move_in_place(s: &[u16], area: &mut [u8], w: &mut Walk, choice: u16) -> u16

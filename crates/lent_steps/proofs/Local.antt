@@ -1,4 +1,4 @@
--- What the two proofs by hand share: a local's walk is lent for a call and taken back, and a result is made of an answer and a walk.
+-- What the proofs by hand share: a local's walk is lent for a call and taken back, and a result is made of an answer and a walk.
 -- Rests on walk's types, lent Held. Assumes nothing.
 use mathlib.Core.Path.{refl}
 use mathlib.Core.List.{List, [], _∷_}

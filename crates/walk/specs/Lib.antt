@@ -1,3 +1,3 @@
 -- What the code's walk stands for.
--- Rests on theory.
+-- Rests on theory, calls.
 pub mod Walks

@@ -1,12 +1,12 @@
-// The walk: a place, a count and an end, its starting value, and the test of its shape.
-// Rests on nothing; what a walk stands for is said by specs Walks, over theory Walks.
+// The walk: a place, a count, an end and the number of a budget, its starting values, and the test of its shape.
+// Rests on nothing; what a walk stands for is said by specs Walks, over theory Walks and calls Moves.
 ghost use mathlib.Core.Path.{_≡_};
 ghost use Prim.Native.Nat.{_<_};
 ghost use lib.Dec.{eqb};
 ghost use Rattle.theory.specs.Machines.{diverted};
-ghost use Rattle.theory.specs.Walks.{starting, isExit, hasEnded, endAt, mostMoves};
-ghost use Rattle.calls.specs.Moves.{outOfShape};
-ghost use Rattle.walk.specs.Walks.{endOf, walkOf, apart};
+ghost use Rattle.theory.specs.Walks.{startAt, stopped, isExit, hasEnded, endAt, mostMoves};
+ghost use Rattle.calls.specs.Moves.{budgeted, startingWalk, outOfShape};
+ghost use Rattle.walk.specs.Walks.{endOf, stateOf, walkOf, apart};
 
 pub enum End {
     Going,
@@ -18,6 +18,8 @@ pub struct Walk {
     pub place: u16,
     pub count: u16,
     pub end: End,
+    // the number of a chosen budget
+    pub budget: u16,
 }
 
 // An answer, and the walk after it.
@@ -34,18 +36,47 @@ impl Walk {
     pub const FIRST_PLACE: u16 = 1;
 
     pub const FIRST_COUNT: u16 = 0;
-    // the exit's place
+
+    // "A walk now holds the number of a chosen budget, 1 .. in the starting walk"
+    pub const FIRST_BUDGET: u16 = 1;
+    // the exit's place on a graph sheet, where places are blocks
     pub const EXIT_PLACE: usize = 2;
 
     // "The starting walk, which takes no input, is place 1, count 0, going."
     pub fn start() -> Self
-        ensures { λ r. ⌜ walkOf r ≡ starting ⌝ }
+        ensures { λ r. ⌜ walkOf r ≡ startingWalk ⌝ }
     {
         Walk {
             place: Walk::FIRST_PLACE,
             count: Walk::FIRST_COUNT,
             end: End::Going,
+            budget: Walk::FIRST_BUDGET,
         }
+    }
+}
+
+// The walk that sets out from the place p, with this budget's number.
+pub fn set_out(p: usize, budget: u16) -> Walk
+    requires { ⌜ p < 65536 ⌝ }
+    ensures { λ r. ⌜ walkOf r ≡ budgeted budget (startAt p) ⌝ }
+{
+    Walk {
+        place: p as u16,
+        count: Walk::FIRST_COUNT,
+        end: End::Going,
+        budget: budget,
+    }
+}
+
+// "Where nothing fits it starts diverted at place 1, count 0."
+pub fn stop(budget: u16) -> Walk
+    ensures { λ r. ⌜ walkOf r ≡ budgeted budget stopped ⌝ }
+{
+    Walk {
+        place: Walk::FIRST_PLACE,
+        count: Walk::FIRST_COUNT,
+        end: End::Diverted,
+        budget: budget,
     }
 }
 
@@ -60,37 +91,39 @@ pub fn has_ended(end: End) -> bool
     }
 }
 
-// The end of a walk that has entered the place p.
-fn end_at(p: usize) -> End
-    ensures { λ r. ⌜ endOf r ≡ endAt 2 p ⌝ }
+// The end of a walk that has entered the place p, where x is the exit's.
+fn end_at(p: usize, x: usize) -> End
+    ensures { λ r. ⌜ endOf r ≡ endAt x p ⌝ }
 {
-    if p == Walk::EXIT_PLACE {
+    if p == x {
         return End::Exit;
     }
     End::Going
 }
 
-// The walk that has entered the place p, at this count.
-pub fn enter(p: usize, count: usize) -> Walk
+// The walk that has entered the place p, where x is the exit's, at this count and with this budget's number.
+pub fn enter(p: usize, x: usize, count: usize, budget: u16) -> Walk
     requires { ⌜ (p < 65536) × (count < 65536) ⌝ }
-    ensures { λ r. ⌜ walkOf r ≡ record { place = p; count = count; end = endAt 2 p } ⌝ }
+    ensures { λ r. ⌜ walkOf r ≡ budgeted budget (record { place = p; count = count; end = endAt x p }) ⌝ }
 {
-    let end = end_at(p);
+    let end = end_at(p, x);
     Walk {
         place: p as u16,
         count: count as u16,
         end: end,
+        budget: budget,
     }
 }
 
 // The walk diverted where it stands, at this count.
 pub fn divert(w: Walk, count: u16) -> Walk
-    ensures { λ r. ⌜ walkOf r ≡ record { place = w .place; count = count; end = diverted } ⌝ }
+    ensures { λ r. ⌜ walkOf r ≡ budgeted (w .budget) (record { place = w .place; count = count; end = diverted }) ⌝ }
 {
     Walk {
         place: w.place,
         count: count,
         end: End::Diverted,
+        budget: w.budget,
     }
 }
 
@@ -119,7 +152,7 @@ fn is_torn(end: End, place: usize, x: usize) -> bool
 
 // 33: the place outside 1 to n, the end exit and the place x not together, or the count above most.
 pub fn out_of_shape(n: usize, x: usize, most: usize, w: Walk) -> bool
-    ensures { λ r. ⌜ r ≡ outOfShape n x most (walkOf w) ⌝ }
+    ensures { λ r. ⌜ r ≡ outOfShape n x most (stateOf w) ⌝ }
 {
     let place = w.place as usize;
     if place < 1 {

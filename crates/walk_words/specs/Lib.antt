@@ -1,4 +1,4 @@
--- What three words stand for.
--- Rests on theory Machines and Walks.
--- a walk as three words: walkIn, walkWords
+-- What four words stand for.
+-- Rests on theory Machines and Walks, calls Moves.
+-- a walk as four words: walkIn, walkWords
 pub mod WalkWords

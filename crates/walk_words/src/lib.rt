@@ -1,5 +1,5 @@
-// A walk as a row of three words, as it crosses to C and Rust: read and written.
-// Rests on walk; what three words stand for is said by specs WalkWords.
+// A walk as a row of four words, as it crosses to C and Rust: read and written.
+// Rests on walk; what four words stand for is said by specs WalkWords.
 ghost use mathlib.Core.Path.{_≡_};
 ghost use Rattle.walk.specs.Walks.{endOf, walkOf};
 ghost use Rattle.walk_words.specs.WalkWords.{endIn, endWord, walkIn, walkWords};
@@ -19,8 +19,8 @@ fn end_of(e: u16) -> End
     End::Diverted
 }
 
-// The walk that three words stand for.
-pub fn walk_of(row: &[u16; 3]) -> Walk
+// The walk that four words stand for.
+pub fn walk_of(row: &[u16; 4]) -> Walk
     ensures { λ r. ⌜ walkOf r ≡ walkIn (now (row .entry)) ⌝ }
 {
     if 2 < row[2] {
@@ -28,6 +28,7 @@ pub fn walk_of(row: &[u16; 3]) -> Walk
             place: 0,
             count: 0,
             end: End::Going,
+            budget: row[3],
         };
     }
     let end = end_of(row[2]);
@@ -35,6 +36,7 @@ pub fn walk_of(row: &[u16; 3]) -> Walk
         place: row[0],
         count: row[1],
         end: end,
+        budget: row[3],
     }
 }
 
@@ -49,11 +51,11 @@ fn end_word(end: End) -> u16
     }
 }
 
-// Writes a walk as three words.
-pub fn put_walk(row: &mut [u16; 3], w: Walk)
+// Writes a walk as four words.
+pub fn put_walk(row: &mut [u16; 4], w: Walk)
     ensures { λ _. ⌜ now (row .exit) ≡ walkWords (walkOf w) ⌝ }
 {
     let end = w.end;
     let e = end_word(end);
-    *row = [w.place, w.count, e];
+    *row = [w.place, w.count, e, w.budget];
 }

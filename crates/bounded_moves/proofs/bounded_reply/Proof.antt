@@ -8,9 +8,8 @@ use Rattle.theory.specs.Machines.{going}
 use Rattle.theory.specs.Walks.{Bounded, boundedWalk}
 use Rattle.formats.specs.Limits.{mostBudget}
 use Rattle.formats.specs.BoundedSheet.{headingOf}
-use Rattle.walk.specs.Walks.{endOf, walkOf}
+use Rattle.walk.specs.Walks.{endOf, stateOf}
 use Rattle.walk.proofs.Shape.{ended-is, going-is}
-use Rattle.theory.proofs.Shape.{most-fits}
 use Rattle.walk.proofs.Replies.{ended, unchosen}
 use Rattle.bounded_moves.specs.Bounded.{boundedAt}
 use Rattle.bounded_moves.proofs.Replies.{diverts, enters}
@@ -19,16 +18,16 @@ use Rattle.bounded_moves.proofs.bounded_reply.Tie as tie
 
 -- the bounded graph that the walk goes on
 abbrev on : tie.Start → Bounded
-on z = let a = z .args in boundedAt (headingOf (a .at) (a .c) (a .f) (a .b)) (a .t .now)
+on z = let a = z .args in boundedAt (headingOf (a .at) (a .c) (a .f) (a .b)) (a .x) (a .t .now)
 
 returns : tie.Need-returns
 unfolding boundedWalk
 returns c =
     let z = c .before .before .before in
-    ended (boundedWalk (on z)) (walkOf (z .args .w)) (z .args .choice) (ended-is (c .before .has-ended .ensures) (c .if1 .taken))
+    ended (boundedWalk (on z)) (z .args .w .budget) (stateOf (z .args .w)) (z .args .choice) (ended-is (c .before .has-ended .ensures) (c .if1 .taken))
 
 bounded-target-requires : tie.Need-bounded-target-requires
-bounded-target-requires c κs = let z = c .before .before .before .before in (z .pre .0, z .pre .1 .1 .place)
+bounded-target-requires c κs = let z = c .before .before .before .before in (z .pre .0, z .pre .1 .0)
 
 -- the walk has not ended
 goes-on : (c : tie.Else1) → endOf (c .before .before .before .args .w .end) ≡ going
@@ -38,14 +37,12 @@ returns-2 : tie.Need-returns-2
 unfolding boundedWalk
 returns-2 c =
     let z = c .before .before .before .before .before .before in
-    unchosen (boundedWalk (on z)) (walkOf (z .args .w)) (z .args .choice) (goes-on (c .before .before .before)) _
+    unchosen (boundedWalk (on z)) (z .args .w .budget) (stateOf (z .args .w)) (z .args .choice) (goes-on (c .before .before .before)) _
     (c .before .bounded-target .ensures .0) (c .if2 .taken)
 
 -- the moves are few
 few : (c : tie.Else2) → c .before .before .before .before .before .before .args .w .count ≤ suc mostBudget
-few c =
-    let z = c .before .before .before .before .before .before in
-    omega (arith, most-fits (z .args .b) (endOf (z .args .w .end)), z .pre .1 .0, z .pre .1 .1 .count)
+few c = c .before .before .before .before .before .before .pre .1 .1
 
 add-moves : tie.Need-add-moves
 add-moves c = omega (arith, few (c .before))
@@ -54,7 +51,7 @@ returns-3 : tie.Need-returns-3
 returns-3 c =
     let u = c .before .before .before in
     let z = u .before .before .before .before .before .before in
-    diverts (on z) (walkOf (z .args .w)) (z .args .choice) (goes-on (u .before .before .before)) (u .before .bounded-target .ensures .0)
+    diverts (on z) (z .args .w .budget) (stateOf (z .args .w)) (z .args .choice) (goes-on (u .before .before .before)) (u .before .bounded-target .ensures .0)
     (c .before .if3 .taken) (c .divert .ensures)
 
 enter-requires : tie.Need-enter-requires
@@ -64,7 +61,7 @@ returns-4 : tie.Need-returns-4
 returns-4 c =
     let u = c .before .before .before in
     let z = u .before .before .before .before .before .before in
-    enters (on z) (walkOf (z .args .w)) (z .args .choice) (goes-on (u .before .before .before)) (u .before .bounded-target .ensures .0)
+    enters (on z) (z .args .w .budget) (stateOf (z .args .w)) (z .args .choice) (goes-on (u .before .before .before)) (u .before .bounded-target .ensures .0)
     (u .if2 .left) (c .before .if3 .left) (c .enter .ensures)
 
 pub bounded-reply-spec : {M : Type 1} → statement M

@@ -14,7 +14,7 @@ use Rattle.tables.proofs.Tables.{low-in}
 use Rattle.graph_row.specs.GraphRow.{blocksIn, graphIn}
 use Rattle.graph_row.proofs.Laws.{cost-is}
 use Rattle.graph_row.proofs.Successors.{words-inside, successor-fits}
-use Rattle.walk.specs.Walks.{endOf, walkOf}
+use Rattle.walk.specs.Walks.{endOf, stateOf}
 use Rattle.walk.proofs.Shape.{ended-is, going-is}
 use Rattle.guarded_moves.proofs.Choices.{no-choice, choice-fits, choice-is}
 use Rattle.guarded_moves.proofs.Replies.{ended, unchosen, count-fits, diverts, enters}
@@ -24,7 +24,8 @@ use Rattle.guarded_moves.proofs.monitor_reply.Tie as tie
 returns : tie.Need-returns
 returns c =
     let z = c .before .before .before .before in
-    ended (z .pre .0 .laws) (z .args .b) (walkOf (z .args .w)) (z .args .choice) (ended-is (c .before .has-ended .ensures) (c .if1 .taken))
+    ended (z .pre .0 .laws) (z .args .b) (z .args .w .budget) (stateOf (z .args .w)) (z .args .choice)
+    (ended-is (c .before .has-ended .ensures) (c .if1 .taken))
 
 -- the walk has not ended, and the choice is tested
 module _ (c : tie.After-is-outside) where
@@ -38,8 +39,8 @@ returns-2 : tie.Need-returns-2
 returns-2 c =
     let u = c .before in
     let z = start u in
-    unchosen (z .pre .0 .laws) (z .args .b) (walkOf (z .args .w)) (z .args .choice) (goes-on u)
-    (no-choice (z .pre .0) (z .args .w .place) (z .pre .1 .1 .1 .place) (u .before .degree-in .ensures .0) (z .args .choice)
+    unchosen (z .pre .0 .laws) (z .args .b) (z .args .w .budget) (stateOf (z .args .w)) (z .args .choice) (goes-on u)
+    (no-choice (z .pre .0) (z .args .w .place) (z .pre .1 .1 .2 .place) (u .before .degree-in .ensures .0) (z .args .choice)
     (u .is-outside .ensures) (c .if2 .taken))
 
 -- the choice has a successor
@@ -47,7 +48,7 @@ inside : (c : tie.Else2) → let k = start (c .before) .args .choice in (1 ≤ k
 inside c =
     let u = c .before in
     let z = start u in
-    choice-fits (z .pre .0) (z .args .w .place) (z .pre .1 .1 .1 .place) (u .before .degree-in .ensures .0) (z .args .choice)
+    choice-fits (z .pre .0) (z .args .w .place) (z .pre .1 .1 .2 .place) (u .before .degree-in .ensures .0) (z .args .choice)
     (u .is-outside .ensures) (c .if2 .left)
 
 sub-word-at : tie.Need-sub-word-at
@@ -62,7 +63,7 @@ word-at-requires : tie.Need-word-at-requires
 word-at-requires c κs =
     let u = c .before .before in
     let z = start u in
-    let p = z .pre .1 .1 .1 .place in
+    let p = z .pre .1 .1 .2 .place in
     omega (arith, inside (c .before), z .pre .0 .ends _ (p .0) (p .1), u .before .degree-in .ensures .0, c .start-in .ensures .0)
 
 -- the successor is read
@@ -75,7 +76,7 @@ module _ (c : tie.After-word-at) where
 
   target-is : chosen (graphIn (first .args .row .now) .next (first .args .w .place)) (first .args .choice) ≡ some (c .word-at .result)
   target-is =
-      choice-is (first .pre .0) (first .args .w .place) (first .pre .1 .1 .1 .place) (tested .before .degree-in .ensures .0)
+      choice-is (first .pre .0) (first .args .w .place) (first .pre .1 .1 .2 .place) (tested .before .degree-in .ensures .0)
       (first .args .choice) (tested .is-outside .ensures) (c .before .before .if2 .left) (c .before .start-in .ensures .0)
       (c .word-at .ensures .0)
 
@@ -84,15 +85,19 @@ module _ (c : tie.After-word-at) where
       let b = successor-fits (first .pre .0) (first .args .w .place) _ (chosen-mem _ _ _ target-is) in (omega (arith, b .0), b .1)
 
 sub-look-up : tie.Need-sub-look-up
-sub-look-up c = omega (arith, first (c .before) .pre .1 .1 .1 .count)
+sub-look-up c = omega (arith, first (c .before) .pre .1 .1 .2 .count)
 
 look-up-requires : tie.Need-look-up-requires
 look-up-requires c κs =
     let u = c .before in
     let z = first u in
     let p = block u in (
-      record { budget = z .pre .1 .1 .0; block = (p .0, omega (arith, p .1, z .pre .0 .blocks)); cost = omega arith },
-      area-cell _ (z .args .b) _ _ (z .args .area .now) (p .0) (p .1) (omega arith) (z .pre .1 .0 .room),
+      record {
+        budget = z .pre .1 .1 .1;
+        block = (p .0, omega (arith, p .1, z .pre .0 .blocks));
+        cost = omega (arith, z .pre .1 .1 .0);
+      },
+      area-cell _ (z .args .l) _ _ (z .args .area .now) (p .0) (p .1) (omega (arith, z .pre .1 .1 .0)) (z .pre .1 .0 .room),
     )
 
 -- the look-up is that of the graph
@@ -104,14 +109,14 @@ found :
 found c =
     let u = c .before .before in
     let p = block u in
-    c .look-up .ensures ∙ low-in (first u .pre .1 .0) _ _ (p .0) (p .1) (omega arith)
+    c .look-up .ensures ∙ low-in (first u .pre .1 .0) _ _ (p .0) (p .1) (omega (arith, first u .pre .1 .1 .0))
 
 returns-3 : tie.Need-returns-3
 returns-3 c =
     let l = c .before .before .before in
     let u = l .before .before in
     let z = first u in
-    diverts (z .pre .0 .laws) (z .args .b) (walkOf (z .args .w)) (z .args .choice) (target-is u) (found l) (goes-on (tested u))
+    diverts (z .pre .0 .laws) (z .args .b) (z .args .w .budget) (stateOf (z .args .w)) (z .args .choice) (target-is u) (found l) (goes-on (tested u))
     (c .before .if3 .taken) (c .divert .ensures)
 
 cost-in-requires : tie.Need-cost-in-requires
@@ -123,9 +128,9 @@ enter-requires c κs =
     let u = l .before .before in
     let z = first u in
     let p = block u in
-    let fits = count-fits (z .pre .0 .laws) (z .args .b) (walkOf (z .args .w)) (z .args .choice) (target-is u) (found l)
-    (c .before .if3 .left) (z .pre .1 .1 .1 .count) (c .cost-in .ensures .0 ∙ sym (cost-is _ _ (p .0) (p .1))) in
-    omega (arith, fits, z .pre .1 .1 .0, u .word-at .ensures .1)
+    let fits = count-fits (z .pre .0 .laws) (z .args .b) (z .args .w .budget) (stateOf (z .args .w)) (z .args .choice) (target-is u) (found l)
+    (c .before .if3 .left) (z .pre .1 .1 .2 .count) (c .cost-in .ensures .0 ∙ sym (cost-is _ _ (p .0) (p .1))) in
+    omega (arith, fits, z .pre .1 .1, u .word-at .ensures .1)
 
 returns-4 : tie.Need-returns-4
 returns-4 c =
@@ -133,8 +138,8 @@ returns-4 c =
     let u = l .before .before in
     let z = first u in
     let p = block u in
-    enters (z .pre .0 .laws) (z .args .b) (walkOf (z .args .w)) (z .args .choice) (target-is u) (found l) (goes-on (tested u))
-    (c .before .before .if3 .left) (z .pre .1 .1 .1 .count) (c .before .cost-in .ensures .0 ∙ sym (cost-is _ _ (p .0) (p .1)))
+    enters (z .pre .0 .laws) (z .args .b) (z .args .w .budget) (stateOf (z .args .w)) (z .args .choice) (target-is u) (found l) (goes-on (tested u))
+    (c .before .before .if3 .left) (z .pre .1 .1 .2 .count) (c .before .cost-in .ensures .0 ∙ sym (cost-is _ _ (p .0) (p .1)))
     (c .enter .ensures)
 
 pub monitor-reply-spec : {M : Type 1} → statement M

@@ -11,7 +11,7 @@ returns : tie.Need-returns
 returns c =
     let d = c .before in
     let w = d .before .args .w in
-    ap (λ (e : ℕ). w .place ∷ w .count ∷ e ∷ []) (d .end-word .ensures)
+    ap (λ (e : ℕ). w .place ∷ w .count ∷ e ∷ w .budget ∷ []) (d .end-word .ensures)
 
 pub put-walk-spec : {M : Type 1} → statement M
 put-walk-spec = tie.close (tie.spec (λ c κs. search needs) returns)
