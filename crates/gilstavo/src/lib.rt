@@ -1,21 +1,24 @@
-// The public calls on numbers and slices, for C and Rust: a slice crosses as a pointer and a length, a walk as a row of three words.
-// Rests on graph_check, successors, weigh_sheet, build, bounded_check, reader, walk_words and both moves; the promises are theirs, and Steps for walks.
+// The public calls on numbers and slices, for C and Rust: a slice crosses as a pointer and a length, a walk as a row of four words.
+// Rests on graph_check, successors, weigh_sheet, build, bounded_check, reader, walk_words, both starts and both moves; the promises are theirs, and
+// Steps for walks.
 ghost use mathlib.Core.Path.{_≡_};
 ghost use Rattle.formats.specs.GraphSheet.{sheetRefusal, countSuccessors};
 ghost use Rattle.formats.specs.Rule11.{boundedRefusal, handOut};
-ghost use Rattle.theory.specs.Walks.{starting};
 ghost use Rattle.base.specs.Checks.{lentAfter};
-ghost use Rattle.calls.specs.Moves.{guardedMove};
+ghost use Rattle.calls.specs.Moves.{startingWalk, guardedMove};
+ghost use Rattle.calls.specs.Starts.{guardedStart};
 ghost use Rattle.calls.specs.Weigh.{weighed};
 ghost use Rattle.calls.specs.Build.{built};
 ghost use Rattle.reader.specs.Placed.{Placed};
 ghost use Rattle.walk_words.specs.WalkWords.{walkIn, walkWords};
-ghost use Rattle.gilstavo.specs.Steps.{guardedStep, boundedStep};
+ghost use Rattle.gilstavo.specs.Steps.{guardedOutset, boundedOutset, guardedStep, boundedStep};
 use bounded_check::check_bounded;
 use bounded_moves::bounded_move;
+use bounded_starts::start_bounded;
 use build::build;
 use graph_check::check_graph;
 use guarded_moves::guarded_move;
+use guarded_starts::start_guarded;
 use reader::edge_words_place;
 use successors::count_successors;
 use walk::Walk;
@@ -94,11 +97,49 @@ pub extern "C" fn gilstavo_edge_words(
 
 // The starting walk.
 #[no_mangle]
-pub extern "C" fn gilstavo_start(walk: &mut [u16; 3])
-    ensures { λ _. ⌜ now (walk .exit) ≡ walkWords starting ⌝ }
+pub extern "C" fn gilstavo_start(walk: &mut [u16; 4])
+    ensures { λ _. ⌜ now (walk .exit) ≡ walkWords startingWalk ⌝ }
 {
     let w = Walk::start();
     put_walk(walk, w);
+}
+
+// 1 to 8, 21, 9, 33, else 0; a guarded start with a budget's number of a walk that is set in place.
+#[no_mangle]
+pub extern "C" fn gilstavo_start_guarded(
+    sheet: &[u16],
+    area: &mut [u8],
+    walk: &mut [u16; 4],
+    budget: u16,
+) -> u16
+    ensures { λ r. ⌜ r ≡ guardedOutset (now (sheet .entry)) (now (walk .entry)) (record { number = budget; area = now (area .entry) }) .answer ⌝ }
+    ensures { λ _. ⌜ now (walk .exit)
+        ≡ guardedOutset (now (sheet .entry)) (now (walk .entry)) (record { number = budget; area = now (area .entry) }) .after ⌝ }
+    ensures { λ _. ⌜ now (area .exit)
+        ≡ guardedStart (now (sheet .entry)) (walkIn (now (walk .entry))) (record { number = budget; area = now (area .entry) }) .area ⌝ }
+{
+    let w = walk_of(walk);
+    let first = start_guarded(sheet, area, w, budget);
+    if first.answer != 0 {
+        return first.answer;
+    }
+    put_walk(walk, first.walk);
+    0
+}
+
+// 11, 33, else 0; a bounded start with a budget's number of a walk that is set in place.
+#[no_mangle]
+pub extern "C" fn gilstavo_start_bounded(sheet: &[u16], walk: &mut [u16; 4], budget: u16) -> u16
+    ensures { λ r. ⌜ r ≡ boundedOutset (now (sheet .entry)) (now (walk .entry)) budget .answer ⌝ }
+    ensures { λ _. ⌜ now (walk .exit) ≡ boundedOutset (now (sheet .entry)) (now (walk .entry)) budget .after ⌝ }
+{
+    let w = walk_of(walk);
+    let entered = start_bounded(sheet, w, budget);
+    if entered.answer != 0 {
+        return entered.answer;
+    }
+    put_walk(walk, entered.walk);
+    0
 }
 
 // 1 to 8, 21, 9, 33, 32, 31, else 0; a guarded move of a walk that is changed in place.
@@ -106,7 +147,7 @@ pub extern "C" fn gilstavo_start(walk: &mut [u16; 3])
 pub extern "C" fn gilstavo_guarded_move(
     sheet: &[u16],
     area: &mut [u8],
-    walk: &mut [u16; 3],
+    walk: &mut [u16; 4],
     choice: u16,
 ) -> u16
     ensures { λ r. ⌜ r ≡ guardedStep (now (sheet .entry)) (now (walk .entry)) (record { choice = choice; area = now (area .entry) }) .answer ⌝ }
@@ -126,7 +167,7 @@ pub extern "C" fn gilstavo_guarded_move(
 
 // 11, 33, 32, 31, else 0; a bounded move of a walk that is changed in place.
 #[no_mangle]
-pub extern "C" fn gilstavo_bounded_move(sheet: &[u16], walk: &mut [u16; 3], choice: u16) -> u16
+pub extern "C" fn gilstavo_bounded_move(sheet: &[u16], walk: &mut [u16; 4], choice: u16) -> u16
     ensures { λ r. ⌜ r ≡ boundedStep (now (sheet .entry)) (now (walk .entry)) choice .answer ⌝ }
     ensures { λ _. ⌜ now (walk .exit) ≡ boundedStep (now (sheet .entry)) (now (walk .entry)) choice .after ⌝ }
 {
