@@ -123,33 +123,42 @@ pub record FirstOf (cs : List Copy) (k : ℕ) : Type 0 where
 
 pub first-of : (cs : List Copy) → Rising cs → ((c : Copy) → List·Memᴰ c cs → 1 ≤ c .block) → (k : ℕ) × FirstOf cs k
 unfolding Rising chosen
-first-of [] h above = (0, record {
-  most = omega arith;
-  is = λ i c q l. absurd (omega (arith, chosen-le [] i c q));
-  only = λ i c q e. omega (arith, chosen-le [] i c q);
-})
+first-of [] h above = (
+  0,
+  record {
+    most = omega arith;
+    is = λ i c q l. absurd (omega (arith, chosen-le [] i c q));
+    only = λ i c q e. omega (arith, chosen-le [] i c q);
+  },
+)
 first-of (d ∷ ds) h above = go (ℕ-discrete (d .block) 1) (first-of ds (h .1) (λ c m. above c (List·Memᴰ·tail m)))
   where
     go : Dec (d .block ≡ 1) → (k : ℕ) × FirstOf ds k → (k : ℕ) × FirstOf (d ∷ ds) k
-    go (yes e) r = (suc (r .0), record {
-      most = omega (arith, r .1 .most);
-      is = λ i c. elim i [
-        | zero ↦ λ q l. absurd (Option·none-ne-some c q)
-        | suc i ↦ elim i [
-          | zero ↦ λ q l. ap (λ (x : Copy). x .block) (sym (Option·some-injective d c q)) ∙ e
-          | suc j ↦ λ q l. r .1 .is (suc j) c q (omega arith)
-        ]
-      ];
-      only = λ i c. elim i [
-        | zero ↦ λ q b. absurd (Option·none-ne-some c q)
-        | suc i ↦ elim i [ zero ↦ λ q b. omega arith | suc j ↦ λ q b. omega (arith, r .1 .only (suc j) c q b) ]
-      ];
-    })
-    go (no n) r = (0, record {
-      most = omega arith;
-      is = λ i c q l. absurd (omega (arith, chosen-le (d ∷ ds) i c q));
-      only = λ i c q b. absurd (later i c q b);
-    })
+    go (yes e) r = (
+      suc (r .0),
+      record {
+        most = omega (arith, r .1 .most);
+        is = λ i c. elim i [
+          | zero ↦ λ q l. absurd (Option·none-ne-some c q)
+          | suc i ↦ elim i [
+            | zero ↦ λ q l. ap (λ (x : Copy). x .block) (sym (Option·some-injective d c q)) ∙ e
+            | suc j ↦ λ q l. r .1 .is (suc j) c q (omega arith)
+          ]
+        ];
+        only = λ i c. elim i [
+          | zero ↦ λ q b. absurd (Option·none-ne-some c q)
+          | suc i ↦ elim i [ zero ↦ λ q b. omega arith | suc j ↦ λ q b. omega (arith, r .1 .only (suc j) c q b) ]
+        ];
+      },
+    )
+    go (no n) r = (
+      0,
+      record {
+        most = omega arith;
+        is = λ i c q l. absurd (omega (arith, chosen-le (d ∷ ds) i c q));
+        only = λ i c q b. absurd (later i c q b);
+      },
+    )
       where
         later : (i : ℕ) (c : Copy) → chosen (d ∷ ds) i ≡ some c → c .block ≡ 1 → ⊥
         later zero c q b = Option·none-ne-some c q

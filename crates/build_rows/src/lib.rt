@@ -84,17 +84,7 @@ fn build_weighed(
     let edges = MOST_BOUNDED_EDGES + 1 - room;
     let n = blocks_in(row);
     let copies = number(marks, table, n, b);
-    write_numbered(
-        row,
-        marks,
-        table,
-        out,
-        bs,
-        second,
-        b,
-        copies,
-        edges,
-    )
+    write_numbered(row, marks, table, out, bs, second, b, copies, edges)
 }
 
 // BEHIND 1 TO 8 AND 21
@@ -128,14 +118,5 @@ pub fn build_in_rows(
     let at = read_budgets(s);
     let first = at.first;
     let end = first + at.count;
-    build_weighed(
-        row,
-        area,
-        table,
-        marks,
-        out,
-        &s[first..end],
-        second,
-        b,
-    )
+    build_weighed(row, area, table, marks, out, &s[first..end], second, b)
 }

@@ -76,9 +76,11 @@ module _ (w : List ℕ) (K : Buildable w) where
 
   pub last-behind : (startsIn setting < exitAt setting) × (exitAt setting ≤ length ds)
   last-behind =
-      let l = chosen-le ds (exitAt setting) _ (exit-here setting) in
-      (⊎-elim (λ p. absurd (let e : _≡_ {A = ℕ} 2 1 = first-copies setting .1 .is (exitAt setting) _ (exit-here setting) p in omega arith)) (λ p. p)
-      (either (exitAt setting) (startsIn setting)), l .1)
+      let l = chosen-le ds (exitAt setting) _ (exit-here setting) in (
+        ⊎-elim (λ p. absurd (let e : _≡_ {A = ℕ} 2 1 = first-copies setting .1 .is (exitAt setting) _ (exit-here setting) p in omega arith)) (λ p. p)
+            (either (exitAt setting) (startsIn setting)),
+        l .1,
+      )
     where
       either : (t k : ℕ) → (t ≤ k) ⊎ (k < t)
       either t k = go (ltb k t) refl

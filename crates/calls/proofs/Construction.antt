@@ -187,8 +187,7 @@ module _ (w : List ℕ) (K : Buildable w) where
   in-order v =
       let f = first-version w K v in
       let low : IsLow g 1 (nth bs 1) (K .start) = low-some g (S .laws) 1 _ (K .start) (ap (lowOf g 1) (one-last bs (f .0)) ∙ K .opens) in
-      let e : entry w t 1 ≡ 1 = ap (λ (l : List ℕ). nth l 1) (entries-back w K ∙ f .1) in
-      (
+      let e : entry w t 1 ≡ 1 = ap (λ (l : List ℕ). nth l 1) (entries-back w K ∙ f .1) in (
         subst (λ (x : ℕ). copyAt (heading t) t x ≡ copyOf 1 (K .start)) e (names 1 (K .start) (omega arith, omega (arith, f .0)) low .1),
         last-is w K ∙ f .2,
       )

@@ -100,14 +100,7 @@ fn follow(
 
 // A start copy, of a budget: x is one more than its low, and 0 for none. The start is no edge's target, and costs nothing, so its copy is
 // marked outside the cycle. left and the answer as for a copy.
-fn set_out(
-    row: &[u16],
-    lows: &[u16],
-    marks: &mut [u8],
-    b: usize,
-    x: usize,
-    left: usize,
-) -> usize
+fn set_out(row: &[u16], lows: &[u16], marks: &mut [u8], b: usize, x: usize, left: usize) -> usize
     requires { ⌜ Flat (now row) ⌝ }
     requires { ⌜ Ready (graphIn (now row)) (blocksIn (now row)) b (now lows) (now marks) ⌝ }
     requires { ⌜ Serves (graphIn (now row)) b 1 (optionOf x) ⌝ }

@@ -76,16 +76,6 @@ pub fn write_numbered(
     if out.len() < size + 3 * copies + 2 * edges {
         return 22;
     }
-    write_sheet(
-        row,
-        marks,
-        numbers,
-        out,
-        bs,
-        second,
-        b,
-        copies,
-        edges,
-    );
+    write_sheet(row, marks, numbers, out, bs, second, b, copies, edges);
     0
 }

@@ -45,8 +45,10 @@ no-zeros (suc n) = no-zeros n
 
 -- an end is one alone
 ended : (e : End) → e ≡ diverted → (e ≡ going → ⊥) × (e ≡ exit → ⊥)
-ended e d = (λ g. absurd (let z : _≡_ {A = ℕ} 0 1 = ap (λ (x : End). elim x [ going ↦ 0 | exit ↦ 2 | diverted ↦ 1 ]) (sym g ∙ d) in omega arith),
-  λ g. absurd (let z : _≡_ {A = ℕ} 2 1 = ap (λ (x : End). elim x [ going ↦ 0 | exit ↦ 2 | diverted ↦ 1 ]) (sym g ∙ d) in omega arith))
+ended e d = (
+  λ g. absurd (let z : _≡_ {A = ℕ} 0 1 = ap (λ (x : End). elim x [ going ↦ 0 | exit ↦ 2 | diverted ↦ 1 ]) (sym g ∙ d) in omega arith),
+  λ g. absurd (let z : _≡_ {A = ℕ} 2 1 = ap (λ (x : End). elim x [ going ↦ 0 | exit ↦ 2 | diverted ↦ 1 ]) (sym g ∙ d) in omega arith),
+)
 
 module _ (S : Setting) (b : ℕ) where
   pub monitor-stopped : InShape (S .task .blocks) 2 b stopped

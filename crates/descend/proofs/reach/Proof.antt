@@ -32,14 +32,18 @@ same-length c = c .before .before .before .set-out .kept .1 .1 .0 ∙ c .before 
 
 returns : tie.Need-returns Inv-loop μ-loop
 returns c =
-    let y = c .before .before .before .set-out .ensures in
-    let o = only-on (c .before .before .before .before .before .before .before .before .loop .inv) (c .before .before .before .before .before .before .before .loop-test .taken) (c .before .before .before .before .before .before .word-at .ensures .0) (c .before .before .before .before .before .entry .ensures .0) _ (y .1 .0) in
+    let s = c .before .before .before in
+    let l = s .before .before .before .before in
+    let y = s .set-out .ensures in
+    let o = only-on (l .before .loop .inv) (l .loop-test .taken) (s .before .before .before .word-at .ensures .0) (s .before .before .entry .ensures .0) _ (y .1 .0) in
     (same-length c, outset-stops _ _ _ _ o (sym (c .if1 .taken) ∙ y .0))
 
 loop-again : tie.Need-loop-again Inv-loop μ-loop
 loop-again c =
-    outset-on (c .before .before .before .before .before .before .before .before .loop .inv) (c .before .before .before .before .before .before .before .loop-test .taken) (c .before .before .before .before .before .before .word-at .ensures .0) (c .before .before .before .before .before .entry .ensures .0) (c .before .before .before .set-out .ensures)
-    (omega (arith, c .if1 .left)) (c .before .before .before .set-out .kept .1 .1 .0)
+    let s = c .before .before .before in
+    let l = s .before .before .before .before in
+    outset-on (l .before .loop .inv) (l .loop-test .taken) (s .before .before .before .word-at .ensures .0) (s .before .before .entry .ensures .0) (s .set-out .ensures)
+    (omega (arith, c .if1 .left)) (s .set-out .kept .1 .1 .0)
 
 same-length-2 : tie.Need-same-length-2 Inv-loop μ-loop
 same-length-2 c = c .before .loop .inv .size

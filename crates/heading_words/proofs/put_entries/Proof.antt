@@ -42,8 +42,7 @@ put-one-requires c κs =
 loop-again : tie.Need-loop-again Inv-loop μ-loop
 loop-again c =
     let I = c .before .before .before .before .before .before .before .loop .inv in
-    let l = c .before .before .before .before .before .before .loop-test .taken in
-    (
+    let l = c .before .before .before .before .before .before .loop-test .taken in (
       I .0,
       putting-on (I .1) (omega (arith, l, entries-count (I .0))) (entry-is (I .0) l (c .before .before .before .before .before .word-at .ensures .0) (c .before .before .before .before .number-of .ensures .0))
           (c .before .before .put-one .ensures),

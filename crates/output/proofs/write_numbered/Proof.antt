@@ -28,17 +28,24 @@ add-if2 c = omega (arith, c .heading-size .ensures, size-most (c .before .before
 
 add-if2-2 : tie.Need-add-if2-2
 add-if2-2 c =
-    omega (arith, c .heading-size .ensures, size-most (c .before .before .before .before .before .before .before .args .second) (length (c .before .before .before .before .before .before .before .args .bs .now)) (c .before .before .before .before .before .before .before .pre .1 .0 .0 .count .1), c .before .if1 .left,
-    c .before .before .before .before .before .before .before .pre .1 .1 .1 .1 .1 .1)
+    omega (
+      arith,
+      c .heading-size .ensures,
+      size-most (c .before .before .before .before .before .before .before .args .second) (length (c .before .before .before .before .before .before .before .args .bs .now)) (c .before .before .before .before .before .before .before .pre .1 .0 .0 .count .1),
+      c .before .if1 .left,
+      c .before .before .before .before .before .before .before .pre .1 .1 .1 .1 .1 .1,
+    )
 
 returns-2 : tie.Need-returns-2
 unfolding outputAt
 returns-2 c =
     let z = c .before .before .before .before .before .before .before .before in
     let T = taskIn (z .args .row .now) (z .args .bs .now) (z .args .b) in
-    let q = z .pre .1 .1 .1 .1 in
-    (short-row (z .args .second) T (length (z .args .out .now)) (omega (arith, q .0, c .before .before .if1 .left)) (omega (arith, q .1))
-    (omega (arith, q .0, q .1, sheet-length (z .args .second) T, c .before .heading-size .ensures, c .if2 .taken)), refl)
+    let q = z .pre .1 .1 .1 .1 in (
+      short-row (z .args .second) T (length (z .args .out .now)) (omega (arith, q .0, c .before .before .if1 .left)) (omega (arith, q .1))
+          (omega (arith, q .0, q .1, sheet-length (z .args .second) T, c .before .heading-size .ensures, c .if2 .taken)),
+      refl,
+    )
 
 write-sheet-requires : tie.Need-write-sheet-requires
 write-sheet-requires c κs =
