@@ -1,7 +1,10 @@
 // Gives lists of choices to three machines and prints their rows: the monitor, guarded moves on the graph sheet, bounded moves on the sheet
-// that the build filled. Rests on build, lent_steps, reader, walk. The monitor here is plain code of its own, which finds completions by itself.
+// that the build filled. On sheets of the second version they set out by the starts, with each budget. Rests on build, lent_steps, reader, walk.
+// The monitor here is plain code of its own, which finds completions by itself.
 use build::build;
+use lent_steps::bounded_outset;
 use lent_steps::bounded_step;
+use lent_steps::guarded_outset;
 use lent_steps::guarded_step;
 use libc::STDOUT_FILENO;
 use reader::edge_words;
@@ -51,7 +54,57 @@ const SHEET: [u16; 37] = [
     0,
 ];
 
-// More than any cost of document 01's example.
+// The same within 5 cycles and within 9, in the second version.
+const TWO: [u16; 40] = [
+    0,
+    8,
+    9,
+    2,
+    5,
+    9,
+    0,
+    1,
+    0,
+    0,
+    2,
+    2,
+    1,
+    4,
+    4,
+    5,
+    1,
+    6,
+    1,
+    8,
+    5,
+    9,
+    3,
+    0,
+    4,
+    3,
+    5,
+    0,
+    6,
+    0,
+    6,
+    0,
+    7,
+    7,
+    8,
+    0,
+    2,
+    0,
+    2,
+    0,
+];
+
+// A loop whose body costs 3 cycles, within 2, 3, 7 and 9 cycles: nothing fits the first.
+const FOUR: [u16; 20] = [0, 3, 3, 4, 2, 3, 7, 9, 0, 1, 0, 0, 3, 2, 3, 0, 3, 3, 2, 0];
+
+// The loop within 7 cycles and within 8, with one start copy for both.
+const SHARED: [u16; 18] = [0, 3, 3, 2, 7, 8, 0, 1, 0, 0, 3, 2, 3, 0, 3, 3, 2, 0];
+
+// More than any cost of these sheets.
 const NONE: usize = 65535;
 
 fn wide(x: u16) -> usize
@@ -80,6 +133,66 @@ fn cost_in(row: &[u16], i: usize) -> usize
     NONE
 }
 
+// GRAPH SHEETS, by their words: the first version begins with its blocks, the second with 0
+
+fn blocks(s: &[u16]) -> usize
+    ensures { λ r. ⌜ r < 65536 ⌝ }
+{
+    if word(s, 0) == 0 {
+        return word(s, 1);
+    }
+    word(s, 0)
+}
+
+// The word two before the records.
+fn front(s: &[u16]) -> usize
+    ensures { λ r. ⌜ r < 65538 ⌝ }
+{
+    if word(s, 0) == 0 {
+        return 2 + word(s, 3);
+    }
+    1
+}
+
+// The budget with the number k.
+fn budget(s: &[u16], k: usize) -> usize
+    requires { ⌜ k < 65536 ⌝ }
+    ensures { λ r. ⌜ r < 65536 ⌝ }
+{
+    if word(s, 0) == 0 {
+        return word(s, 3 + k);
+    }
+    word(s, 2)
+}
+
+fn cost_of(s: &[u16], v: usize) -> usize
+    requires { ⌜ v < 65536 ⌝ }
+    ensures { λ r. ⌜ r < 65536 ⌝ }
+{
+    word(s, front(s) + 2 * v)
+}
+
+fn first_edge(s: &[u16], v: usize) -> usize
+    requires { ⌜ v < 65536 ⌝ }
+    ensures { λ r. ⌜ r < 65536 ⌝ }
+{
+    word(s, front(s) + 2 * v + 1)
+}
+
+fn target_of(s: &[u16], e: usize) -> usize
+    requires { ⌜ e < 65536 ⌝ }
+    ensures { λ r. ⌜ r < 65536 ⌝ }
+{
+    word(s, front(s) + 2 * blocks(s) + 2 * e)
+}
+
+fn next_edge(s: &[u16], e: usize) -> usize
+    requires { ⌜ e < 65536 ⌝ }
+    ensures { λ r. ⌜ r < 65536 ⌝ }
+{
+    word(s, front(s) + 2 * blocks(s) + 2 * e + 1)
+}
+
 // The number of the k-th edge of block v, 0 where there is none.
 fn edge(s: &[u16], v: usize, k: usize) -> usize
     requires { ⌜ v < 65536 ⌝ }
@@ -88,14 +201,13 @@ fn edge(s: &[u16], v: usize, k: usize) -> usize
     if k == 0 {
         return 0;
     }
-    let n = word(s, 0);
-    let mut e = word(s, 2 * v + 2);
+    let mut e = first_edge(s, v);
     let mut i = 1;
     while i < k {
         if e == 0 {
             return 0;
         }
-        e = word(s, 2 * n + 2 * e + 2);
+        e = next_edge(s, e);
         i += 1;
     }
     e
@@ -115,19 +227,18 @@ fn by_successors(s: &[u16], row: &[u16], v: usize) -> usize
     requires { ⌜ v < 65536 ⌝ }
     ensures { λ r. ⌜ r < 65536 ⌝ }
 {
-    let n = word(s, 0);
-    let cost = word(s, 2 * v + 1);
+    let cost = cost_of(s, v);
     let mut best = NONE;
-    let mut e = word(s, 2 * v + 2);
+    let mut e = first_edge(s, v);
     let mut left = 512usize;
     while 0 < left {
         if e == 0 {
             return best;
         }
-        let t = word(s, 2 * n + 2 * e + 1);
+        let t = target_of(s, e);
         let c = cost + cost_in(row, t);
         best = smaller(c, best);
-        e = word(s, 2 * n + 2 * e + 2);
+        e = next_edge(s, e);
         left -= 1;
     }
     best
@@ -154,7 +265,7 @@ fn round(s: &[u16], row: [u16; 9]) -> [u16; 9] {
     next
 }
 
-// The cheapest completion of each block, found from the sheet alone: after as many rounds as there are blocks none gets cheaper.
+// The cheapest completion of each of up to eight blocks, found from the sheet alone: after as many rounds none gets cheaper.
 fn cheapest(s: &[u16]) -> [u16; 9] {
     let mut row = [65535u16; 9];
     row[2] = 0;
@@ -175,6 +286,24 @@ fn goes(end: End) -> bool {
     }
 }
 
+// The monitor sets out with the k-th budget: diverted where that is below the cheapest completion of block 1.
+fn watch(s: &[u16], completions: &[u16], k: u16) -> Walk {
+    if budget(s, wide(k)) < cost_in(completions, 1) {
+        return Walk {
+            place: 1,
+            count: 0,
+            end: End::Diverted,
+            budget: k,
+        };
+    }
+    Walk {
+        place: 1,
+        count: 0,
+        end: End::Going,
+        budget: k,
+    }
+}
+
 // The monitor: document 01's three rules, with the cheapest completion of each block at hand.
 fn monitor(s: &[u16], completions: &[u16], w: Walk, choice: u16) -> Moved {
     let end = w.end;
@@ -184,16 +313,16 @@ fn monitor(s: &[u16], completions: &[u16], w: Walk, choice: u16) -> Moved {
             walk: w,
         };
     }
-    let e = edge(s, w.place as usize, choice as usize);
+    let e = edge(s, wide(w.place), wide(choice));
     if e == 0 {
         return Moved {
             answer: 31,
             walk: w,
         };
     }
-    let t = word(s, 2 * word(s, 0) + 2 * e + 1);
-    let b = word(s, 2);
-    let count = w.count as usize;
+    let t = target_of(s, e);
+    let b = budget(s, wide(w.budget));
+    let count = wide(w.count);
     if b < count + cost_in(completions, t) {
         return Moved {
             answer: 0,
@@ -201,10 +330,11 @@ fn monitor(s: &[u16], completions: &[u16], w: Walk, choice: u16) -> Moved {
                 place: w.place,
                 count: w.count,
                 end: End::Diverted,
+                budget: w.budget,
             },
         };
     }
-    let spent = ((count + word(s, 2 * t + 1)) % 65536) as u16;
+    let spent = ((count + cost_of(s, t)) % 65536) as u16;
     if t == 2 {
         return Moved {
             answer: 0,
@@ -212,6 +342,7 @@ fn monitor(s: &[u16], completions: &[u16], w: Walk, choice: u16) -> Moved {
                 place: 2,
                 count: spent,
                 end: End::Exit,
+                budget: w.budget,
             },
         };
     }
@@ -221,6 +352,7 @@ fn monitor(s: &[u16], completions: &[u16], w: Walk, choice: u16) -> Moved {
             place: (t % 65536) as u16,
             count: spent,
             end: End::Going,
+            budget: w.budget,
         },
     }
 }
@@ -255,6 +387,16 @@ fn print_end(block: usize, w: Walk) {
     ;
 }
 
+// The block of a copy, from a bounded sheet's words.
+fn block_of(sheet: &[u16], copy: u16) -> usize
+    ensures { λ r. ⌜ r < 65536 ⌝ }
+{
+    if word(sheet, 0) == 0 {
+        return word(sheet, 2 * word(sheet, 3) + 3 * wide(copy) + 1);
+    }
+    word(sheet, 3 * wide(copy))
+}
+
 // The targets of a copy, from its edge words.
 fn print_targets(sheet: &[u16], copy: u16) {
     let mut answer = 0u16;
@@ -280,19 +422,48 @@ struct Machines {
     bounded_answers: [u16; 8],
 }
 
-fn begin() -> Machines {
+fn together(monitor: Walk, guarded: Walk, bounded: Walk) -> Machines {
     Machines {
-        monitor: Walk::start(),
-        guarded: Walk::start(),
-        bounded: Walk::start(),
+        monitor: monitor,
+        guarded: guarded,
+        bounded: bounded,
         monitor_answers: [0u16; 8],
         guarded_answers: [0u16; 8],
         bounded_answers: [0u16; 8],
     }
 }
 
+// "Both walks begin as the starting walk."
+fn begin() -> Machines {
+    let w = Walk::start();
+    together(w, w, w)
+}
+
+// The answers of the two starts.
+fn print_starts(k: u16, guarded: u16, bounded: u16) {
+    io::write_all(STDOUT_FILENO, b"budget");
+    number(wide(k));
+    io::write_all(STDOUT_FILENO, b" :");
+    number(wide(guarded));
+    number(wide(bounded));
+    io::write_all(STDOUT_FILENO, b"\n");
+}
+
+// The three set out with the k-th budget; the answers of the two starts are printed.
+fn outset(graph: &[u16], completions: &[u16], area: &mut [u8], sheet: &[u16], k: u16) -> Machines {
+    let w = Walk::start();
+    let g = guarded_outset(graph, area, w, k);
+    let b = bounded_outset(sheet, w, k);
+    print_starts(k, g.answer, b.answer);
+    let x = watch(graph, completions, k);
+    let y = g.walk;
+    let z = b.walk;
+    together(x, y, z)
+}
+
 // One choice, the j-th of n, given to all three; nothing beyond the n-th.
 fn give(
+    graph: &[u16],
     completions: &[u16],
     area: &mut [u8],
     sheet: &[u16],
@@ -306,8 +477,8 @@ fn give(
     if n <= j {
         return m;
     }
-    let a = monitor(&SHEET, completions, m.monitor, choice);
-    let b = guarded_step(&SHEET, area, m.guarded, choice);
+    let a = monitor(graph, completions, m.monitor, choice);
+    let b = guarded_step(graph, area, m.guarded, choice);
     let c = bounded_step(sheet, m.bounded, choice);
     let mut next = m;
     next.monitor_answers[j] = a.answer;
@@ -330,24 +501,34 @@ fn give(
 }
 
 fn run(
+    graph: &[u16],
     completions: &[u16],
     area: &mut [u8],
     sheet: &[u16],
+    from: Machines,
     choices: [u16; 8],
     n: usize,
 ) -> Machines {
-    let mut m = begin();
+    let mut m = from;
     let mut j = 0;
     while j < 8 {
-        m = give(completions, area, sheet, m, n, j, choices[j]);
+        m = give(graph, completions, area, sheet, m, n, j, choices[j]);
         j += 1;
     }
     m
 }
 
 // One list: its choices, a row for each machine, and the targets of the copy at which the bounded walk stands.
-fn print_list(completions: &[u16], area: &mut [u8], sheet: &[u16], choices: [u16; 8], n: usize) {
-    let m = run(completions, area, sheet, choices, n);
+fn print_list(
+    graph: &[u16],
+    completions: &[u16],
+    area: &mut [u8],
+    sheet: &[u16],
+    from: Machines,
+    choices: [u16; 8],
+    n: usize,
+) {
+    let m = run(graph, completions, area, sheet, from, choices, n);
     io::write_all(STDOUT_FILENO, b"choices");
     print_row(choices, n);
     io::write_all(STDOUT_FILENO, b"\nmonitor");
@@ -364,7 +545,7 @@ fn print_list(completions: &[u16], area: &mut [u8], sheet: &[u16], choices: [u16
     let third = m.bounded_answers;
     let u = m.bounded;
     print_row(third, n);
-    print_end(word(sheet, 3 * wide(u.place)), u);
+    print_end(block_of(sheet, u.place), u);
     print_targets(sheet, u.place);
 }
 
@@ -380,20 +561,27 @@ fn run_out(sheet: &[u16]) -> Walk {
     w
 }
 
-fn print_lists(completions: &[u16], area: &mut [u8], sheet: &[u16]) {
-    // no choice
-    print_list(completions, area, sheet, [0, 0, 0, 0, 0, 0, 0, 0], 0);
-    // a choice of 0, one too large, and one that there is
-    print_list(completions, area, sheet, [0, 2, 1, 0, 0, 0, 0, 0], 3);
-    // a path of cost exactly 8, and a choice after the end
-    print_list(completions, area, sheet, [1, 2, 1, 1, 1, 1, 0, 0], 6);
-    // a path of cost 9: diverted at the first branch from which it can no longer finish, and choices after the end
-    print_list(completions, area, sheet, [1, 1, 1, 2, 1, 1, 0, 0], 6);
-    // a path of cost 5
-    print_list(completions, area, sheet, [1, 1, 1, 1, 1, 0, 0, 0], 5);
+// FROM THE STARTING WALK
+
+fn from_start(completions: &[u16], area: &mut [u8], sheet: &[u16], choices: [u16; 8], n: usize) {
+    let m = begin();
+    print_list(&SHEET, completions, area, sheet, m, choices, n);
 }
 
-fn main() {
+fn print_lists(completions: &[u16], area: &mut [u8], sheet: &[u16]) {
+    // no choice
+    from_start(completions, area, sheet, [0, 0, 0, 0, 0, 0, 0, 0], 0);
+    // a choice of 0, one too large, and one that there is
+    from_start(completions, area, sheet, [0, 2, 1, 0, 0, 0, 0, 0], 3);
+    // a path of cost exactly 8, and a choice after the end
+    from_start(completions, area, sheet, [1, 2, 1, 1, 1, 1, 0, 0], 6);
+    // a path of cost 9: diverted at the first branch from which it can no longer finish, and choices after the end
+    from_start(completions, area, sheet, [1, 1, 1, 2, 1, 1, 0, 0], 6);
+    // a path of cost 5
+    from_start(completions, area, sheet, [1, 1, 1, 1, 1, 0, 0, 0], 5);
+}
+
+fn print_first() {
     let completions = cheapest(&SHEET);
     let mut area = [7u8; 80];
     let mut sheet = [0u16; 40];
@@ -401,5 +589,76 @@ fn main() {
     print_lists(&completions, &mut area, &sheet);
     let last = run_out(&sheet);
     io::write_all(STDOUT_FILENO, b"first choices");
-    print_end(word(&sheet, 3 * wide(last.place)), last);
+    print_end(block_of(&sheet, last.place), last);
+}
+
+// BY THE STARTS
+
+// One list with the k-th budget.
+fn with_budget(
+    graph: &[u16],
+    completions: &[u16],
+    area: &mut [u8],
+    sheet: &[u16],
+    k: u16,
+    choices: [u16; 8],
+    n: usize,
+) {
+    let m = outset(graph, completions, area, sheet, k);
+    print_list(graph, completions, area, sheet, m, choices, n);
+}
+
+// A path of cost 8 within 5 and within 9.
+fn list_two(completions: &[u16], area: &mut [u8], sheet: &[u16]) {
+    let choices = [1, 2, 1, 1, 1, 0, 0, 0];
+    with_budget(&TWO, completions, area, sheet, 1, choices, 5);
+    with_budget(&TWO, completions, area, sheet, 2, choices, 5);
+}
+
+fn print_two() {
+    let completions = cheapest(&TWO);
+    let mut area = [7u8; 80];
+    let mut sheet = [0u16; 74];
+    build(&TWO, &mut area, &mut sheet);
+    list_two(&completions, &mut area, &sheet);
+}
+
+// Turn after turn of the loop: within 2 cycles, which divert before the first choice, and within 3, 7 and 9.
+fn list_four(completions: &[u16], area: &mut [u8], sheet: &[u16]) {
+    let choices = [1, 1, 1, 2, 0, 0, 0, 0];
+    with_budget(&FOUR, completions, area, sheet, 1, choices, 4);
+    with_budget(&FOUR, completions, area, sheet, 2, choices, 4);
+    with_budget(&FOUR, completions, area, sheet, 3, choices, 4);
+    with_budget(&FOUR, completions, area, sheet, 4, choices, 4);
+}
+
+fn print_four() {
+    let completions = cheapest(&FOUR);
+    let mut area = [7u8; 30];
+    let mut sheet = [0u16; 51];
+    build(&FOUR, &mut area, &mut sheet);
+    list_four(&completions, &mut area, &sheet);
+}
+
+// Two turns and the exit, within 7 cycles and within 8; a third budget the sheet does not have.
+fn list_shared(completions: &[u16], area: &mut [u8], sheet: &[u16]) {
+    let choices = [1, 1, 2, 1, 0, 0, 0, 0];
+    with_budget(&SHARED, completions, area, sheet, 1, choices, 4);
+    with_budget(&SHARED, completions, area, sheet, 2, choices, 4);
+    outset(&SHARED, completions, area, sheet, 3);
+}
+
+fn print_shared() {
+    let completions = cheapest(&SHARED);
+    let mut area = [7u8; 27];
+    let mut sheet = [0u16; 30];
+    build(&SHARED, &mut area, &mut sheet);
+    list_shared(&completions, &mut area, &sheet);
+}
+
+fn main() {
+    print_first();
+    print_two();
+    print_four();
+    print_shared();
 }

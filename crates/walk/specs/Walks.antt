@@ -1,6 +1,6 @@
 -- What the code's walk stands for: document 01's place, count and end, for each of the enum's cases, and document 02's number of a budget.
 -- Rests on theory Machines and Walks, calls Moves.
-use mathlib.Core.Bool.{Bool, true, false, not, Bool·beq}
+use mathlib.Core.Bool.{Bool, not, Bool·beq}
 use Rattle.theory.specs.Machines.{End as Ends, going, exit, diverted, Reply}
 use Rattle.theory.specs.Walks.{Walk as Walked}
 use Rattle.calls.specs.Moves.{Budgeted, budgeted}

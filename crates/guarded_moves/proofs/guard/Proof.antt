@@ -59,8 +59,9 @@ returns-2 c =
     (tested u (c .if2 .taken))
 
 blocks-in-requires : tie.Need-blocks-in-requires
-blocks-in-requires c κs = omega
-    (arith, c .before .before .before .before .before .before .before .before .before .before .before .weigh-into .ensures .1 .1 .flat .room)
+blocks-in-requires c κs =
+    let u = c .before .before in
+    omega (arith, u .before .before .before .before .before .before .before .before .before .weigh-into .ensures .1 .1 .flat .room)
 
 budget-requires : tie.Need-budget-requires
 budget-requires c κs =

@@ -1,7 +1,7 @@
 -- The words are written at once.
 -- Rests on `end_word`.
 use mathlib.Core.Path.{ap}
-use mathlib.Core.List.{List, [], _∷_}
+use mathlib.Core.List.{[], _∷_}
 use Prim.Native.Nat.{ℕ}
 use borrow.Author.Needs.{needs}
 use Rattle.walk_words.proofs.put_walk.Statement.{statement}
