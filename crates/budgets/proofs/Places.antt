@@ -13,6 +13,7 @@ use Rattle.base.specs.Checks.{outside}
 use Rattle.base.proofs.Truth.{or-l}
 use Rattle.base.proofs.Numbers.{any-place}
 use Rattle.formats.specs.Limits.{mostBudget, leastBudgets, mostBudgets}
+use Rattle.formats.specs.Words.{word}
 use Rattle.formats.specs.Versions.{budgetsAt, budgetCount, budgetsIn, badBudget, badBudgets}
 use Rattle.formats.proofs.Budgets.{budgets-there}
 
@@ -22,6 +23,10 @@ above xs k = ltb mostBudget (nth xs k)
 
 abbrev pub notBelow : List ℕ → ℕ → Bool
 notBelow xs k = not (ltb (nth xs k) (nth xs (k + 1)))
+
+-- one is above the limit
+pub above-any : (xs : List ℕ) → any (λ b. ltb mostBudget b) xs ≡ any (above xs) (from 1 (length xs))
+above-any = any-place (λ b. ltb mostBudget b)
 
 not-and : (a b : Bool) → not (a && b) ≡ (not a || not b)
 not-and true b = refl
@@ -41,6 +46,9 @@ not-rising (x ∷ y ∷ zs) ys a same =
     let head : notBelow ys a ≡ not (ltb x y) = ap₂ (λ (p q : ℕ). not (ltb p q)) first next in
     rw n (not-and (ltb x y) (rising (y ∷ zs)) ∙ ap₂ (λ (p q : Bool). p || q) (sym head) rest)
 
+pub not-rising-any : (xs : List ℕ) → not (rising xs) ≡ any (notBelow xs) (from 1 (length xs - 1))
+not-rising-any xs = not-rising xs xs 1 (λ i. let j : 1 + i - 1 ≡ i = omega arith in ap (λ (n : ℕ). getD xs n 0) j)
+
 -- what the loops read decides the tests
 module _ (xs : List ℕ) (k : ℕ) {a : ℕ} (p : a ≡ nth xs k) where
   pub is-above : mostBudget < a → above xs k ≡ true
@@ -49,26 +57,30 @@ module _ (xs : List ℕ) (k : ℕ) {a : ℕ} (p : a ≡ nth xs k) where
   pub not-above : a ≤ mostBudget → above xs k ≡ false
   not-above l = le-ltb mostBudget (nth xs k) (omega arith)
 
-  module _ {b : ℕ} (q : b ≡ nth xs (k + 1)) where
+  module _ {b : ℕ} (q : b ≡ word xs k) where
+    next : nth xs (k + 1) ≡ b
+    next = let j : k + 1 - 1 ≡ k = omega arith in ap (word xs) j ∙ sym q
+
     pub not-below : b ≤ a → notBelow xs k ≡ true
-    not-below l = ap not (le-ltb (nth xs k) (nth xs (k + 1)) (omega arith))
+    not-below l = ap not (le-ltb (nth xs k) (nth xs (k + 1)) (omega (arith, next)))
 
     pub is-below : a < b → notBelow xs k ≡ false
-    is-below l = ap not (lt-ltb (nth xs k) (nth xs (k + 1)) (omega arith))
+    is-below l = ap not (lt-ltb (nth xs k) (nth xs (k + 1)) (omega (arith, next)))
 
-module _ (w : List ℕ) (l : budgetsAt w + budgetCount w ≤ length w) where
-  -- 4: a budget above the limit
-  pub above-any : badBudget w ≡ any (above (budgetsIn w)) (from 1 (budgetCount w))
+-- the conditions, of a sheet whose budgets are this part
+module _ (w : List ℕ) {bs : List ℕ} (e : bs ≡ budgetsIn w) where
+  pub bad-budget-is : {r : Bool} → r ≡ any (λ b. ltb mostBudget b) bs → r ≡ badBudget w
   unfolding badBudget
-  above-any = any-place (λ b. ltb mostBudget b) (budgetsIn w) ∙ ap (λ (n : ℕ). any (above (budgetsIn w)) (from 1 n)) (budgets-there w l)
+  bad-budget-is p = p ∙ ap (any (λ b. ltb mostBudget b)) e
 
-  -- 41: their number, then one that is not below the next
-  pub few-or-many : outside leastBudgets mostBudgets (budgetCount w) ≡ true → true ≡ badBudgets w
-  unfolding badBudgets
-  few-or-many e = sym (or-l (not (rising (budgetsIn w))) e)
+  module _ (l : budgetsAt w + budgetCount w ≤ length w) where
+    both : (outside leastBudgets mostBudgets (length bs) || not (rising bs)) ≡ badBudgets w
+    unfolding badBudgets
+    both =
+        ap₂ (λ (n : ℕ) (xs : List ℕ). outside leastBudgets mostBudgets n || not (rising xs)) (ap length e ∙ budgets-there w l) e
 
-  pub not-rising-any : outside leastBudgets mostBudgets (budgetCount w) ≡ false → badBudgets w ≡ any (notBelow (budgetsIn w)) (from 1 (budgetCount w - 1))
-  unfolding badBudgets
-  not-rising-any e =
-      rw e (not-rising (budgetsIn w) (budgetsIn w) 1 (λ i. let j : 1 + i - 1 ≡ i = omega arith in ap (λ (n : ℕ). getD (budgetsIn w) n 0) j)
-      ∙ ap (λ (n : ℕ). any (notBelow (budgetsIn w)) (from 1 (n - 1))) (budgets-there w l))
+    pub few-or-many : outside leastBudgets mostBudgets (length bs) ≡ true → true ≡ badBudgets w
+    few-or-many p = sym (or-l (not (rising bs)) p) ∙ both
+
+    pub number-fits : {r : Bool} → outside leastBudgets mostBudgets (length bs) ≡ false → r ≡ not (rising bs) → r ≡ badBudgets w
+    number-fits p q = q ∙ sym (ap (λ (b : Bool). b || not (rising bs)) p) ∙ both

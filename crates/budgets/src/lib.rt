@@ -1,27 +1,29 @@
 // Conditions 4 and 41, on the budgets that both kinds of sheet name in their header. Below the public calls.
 // Rests on words, headers; the promises are equations with formats Versions.
 ghost use mathlib.Core.Path.{_≡_};
+ghost use mathlib.Core.Bool.{not};
 ghost use Prim.Native.Nat.{_+_, _≤_};
+ghost use lib.Dec.{ltb};
 ghost use lib.ListN.{length};
-ghost use Rattle.formats.specs.Limits.{leastWords};
+ghost use Rattle.base.specs.Lists.{any, rising};
+ghost use Rattle.formats.specs.Limits.{leastWords, mostBudget};
 ghost use Rattle.formats.specs.Versions.{budgetsAt, budgetCount, badBudget, badBudgets};
-use headers::budget;
-use headers::read_budgets;
+use headers::budgets_part;
 use words::LEAST_BUDGETS;
 use words::MOST_BUDGET;
 use words::MOST_BUDGETS;
 use words::is_outside;
+use words::word_at;
 
-// Condition 4: a budget above 500.
-pub fn bad_budget(s: &[u16]) -> bool
-    requires { ⌜ (leastWords ≤ length (now s)) × (budgetsAt (now s) + budgetCount (now s) ≤ length (now s)) ⌝ }
-    ensures { λ r. ⌜ r ≡ badBudget (now (s .entry)) ⌝ }
+// THE BUDGETS as a row of their own
+
+// One of them is above 500.
+fn any_above(bs: &[u16]) -> bool
+    ensures { λ r. ⌜ r ≡ any (λ b. ltb mostBudget b) (now (bs .entry)) ⌝ }
 {
-    let at = read_budgets(s);
-    let n = at.count;
     let mut k = 1;
-    while k <= n {
-        if MOST_BUDGET < budget(s, k) {
+    while k <= bs.len() {
+        if MOST_BUDGET < word_at(bs, k - 1) {
             return true;
         }
         k += 1;
@@ -29,22 +31,39 @@ pub fn bad_budget(s: &[u16]) -> bool
     false
 }
 
-// Condition 41: "a number of budgets outside 1 to 4 or budgets not strictly rising".
-pub fn bad_budgets(s: &[u16]) -> bool
-    requires { ⌜ (leastWords ≤ length (now s)) × (budgetsAt (now s) + budgetCount (now s) ≤ length (now s)) ⌝ }
-    ensures { λ r. ⌜ r ≡ badBudgets (now (s .entry)) ⌝ }
+// One of them is not below the next.
+fn not_rising(bs: &[u16]) -> bool
+    ensures { λ r. ⌜ r ≡ not (rising (now (bs .entry))) ⌝ }
 {
-    let at = read_budgets(s);
-    let n = at.count;
-    if is_outside(LEAST_BUDGETS, MOST_BUDGETS, n) {
-        return true;
-    }
     let mut k = 1;
-    while k < n {
-        if budget(s, k + 1) <= budget(s, k) {
+    while k < bs.len() {
+        if word_at(bs, k) <= word_at(bs, k - 1) {
             return true;
         }
         k += 1;
     }
     false
+}
+
+// THE CONDITIONS, on a sheet that has its budgets
+
+// Condition 4: a budget above 500.
+pub fn bad_budget(s: &[u16]) -> bool
+    requires { ⌜ (leastWords ≤ length (now s)) × (budgetsAt (now s) + budgetCount (now s) ≤ length (now s)) ⌝ }
+    ensures { λ r. ⌜ r ≡ badBudget (now (s .entry)) ⌝ }
+{
+    any_above(budgets_part(s))
+}
+
+// Condition 41: "a number of budgets outside 1 to 4 or budgets not strictly rising".
+pub fn bad_budgets(s: &[u16]) -> bool
+    requires { ⌜ (leastWords ≤ length (now s)) × (budgetsAt (now s) + budgetCount (now s) ≤ length (now s)) ⌝ }
+    ensures { λ r. ⌜ r ≡ badBudgets (now (s .entry)) ⌝ }
+{
+    let bs = budgets_part(s);
+    let n = bs.len();
+    if is_outside(LEAST_BUDGETS, MOST_BUDGETS, n) {
+        return true;
+    }
+    not_rising(bs)
 }

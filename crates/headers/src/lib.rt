@@ -50,6 +50,18 @@ pub fn read_budgets(s: &[u16]) -> Budgets
     Budgets { first: 2, count: 1 }
 }
 
+// The budgets, a part of the sheet.
+pub fn budgets_part(s: &[u16]) -> &[u16]
+    requires { ⌜ (leastWords ≤ length (now s)) × (budgetsAt (now s) + budgetCount (now s) ≤ length (now s)) ⌝ }
+    ensures { λ r. ⌜ now r ≡ budgetsIn (now (s .entry)) ⌝ }
+{
+    let at = read_budgets(s);
+    let first = at.first;
+    let count = at.count;
+    let end = first + count;
+    &s[first..end]
+}
+
 // The largest budget: the last of those that stand in the row, 0 where none does.
 pub fn largest(s: &[u16]) -> usize
     requires { ⌜ leastWords ≤ length (now s) ⌝ }

@@ -3,8 +3,6 @@
 ghost use mathlib.Core.Path.{_≡_};
 ghost use Prim.Native.Nat.{_+_, _≤_};
 ghost use lib.ListN.{length};
-ghost use Rattle.formats.specs.Limits.{leastWords};
-ghost use Rattle.formats.specs.Versions.{budgetsAt, budgetCount, budgetsIn};
 ghost use Rattle.formats.specs.Rule11.{boundedRefusal};
 ghost use Rattle.formats.specs.Listing.{listingOf, refusalOf};
 ghost use Rattle.digits.specs.Wrote.{Wrote};
@@ -14,7 +12,7 @@ use copy_line::write_copy;
 use digits::NEWLINE;
 use digits::put_byte;
 use digits::put_named;
-use headers::read_budgets;
+use headers::budgets_part;
 use headers::read_heading;
 use heading_line::write_heading;
 use words::MOST_BOUNDED_EDGES;
@@ -25,18 +23,6 @@ use words::MOST_COPIES;
 pub const TEXT_SIZE: usize = 30 + 4 * MOST_BUDGETS + 13 * MOST_COPIES + 5 * MOST_BOUNDED_EDGES;
 
 pub const REFUSAL_SIZE: usize = 14;
-
-// The budgets of a sheet, a part of it.
-fn budgets_part(s: &[u16]) -> &[u16]
-    requires { ⌜ (leastWords ≤ length (now s)) × (budgetsAt (now s) + budgetCount (now s) ≤ length (now s)) ⌝ }
-    ensures { λ r. ⌜ now r ≡ budgetsIn (now (s .entry)) ⌝ }
-{
-    let at = read_budgets(s);
-    let first = at.first;
-    let count = at.count;
-    let end = first + count;
-    &s[first..end]
-}
 
 // Writes the lines of all copies.
 fn write_copies(s: &[u16], text: &mut [u8], p: usize, at: usize, c: usize, f: usize) -> usize

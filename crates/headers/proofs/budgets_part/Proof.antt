@@ -6,8 +6,8 @@ use Prim.Native.Nat.{ℕ, _+_, _-_}
 use native.Mathlib.Omega.{arith}
 use lib.ListN.{take, drop}
 use Rattle.formats.specs.Versions.{budgetsIn}
-use Rattle.text.proofs.budgets_part.Statement.{statement}
-use Rattle.text.proofs.budgets_part.Tie as tie
+use Rattle.headers.proofs.budgets_part.Statement.{statement}
+use Rattle.headers.proofs.budgets_part.Tie as tie
 
 returns : tie.Need-returns
 unfolding budgetsIn
