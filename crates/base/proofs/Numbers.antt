@@ -4,9 +4,10 @@ use mathlib.Core.Path.{_≡_, refl, sym, ap, _∙_}
 use mathlib.Core.Logic.{⊎-elim}
 use mathlib.Core.Bool.{Bool, true}
 use mathlib.Core.List.{List, [], _∷_, map, List·Memᴰ, List·Memᴰ·head, List·Memᴰ·tail, List·Memᴰ·not-nil, List·Memᴰ·cases-cons, List·Memᴰ·eq-of-singleton}
-use Prim.Native.Nat.{ℕ, zero, suc, _-_, _≤_}
+use Prim.Native.Nat.{ℕ, zero, suc, _-_, _≤_, _<_}
 use native.Mathlib.Omega.{arith}
-use borrow.Author.Tests.{ltb-true}
+use borrow.Author.Tests.{ltb-true, lt-ltb}
+use lib.Dec.{ltb}
 use lib.ListN.{length, getD}
 use Rattle.base.specs.Lists.{any, from, rising, lastOf, nth}
 use Rattle.base.proofs.Truth.{same-test, and-e, any-i, any-e}
@@ -28,6 +29,18 @@ last-most (y ∷ z ∷ zs) r x m =
     let q = and-e _ _ r in
     let l = last-most (z ∷ zs) (q .1) z (List·Memᴰ·head refl) in
     ⊎-elim (λ e. omega (arith, ltb-true y z (q .0))) (last-most (z ∷ zs) (q .1) x) (List·Memᴰ·cases-cons m)
+
+-- one of them is above a number exactly where the last is
+pub last-above : (m : ℕ) (xs : List ℕ) → rising xs ≡ true → any (λ x. ltb m x) xs ≡ ltb m (lastOf xs)
+unfolding lastOf
+last-above m xs r =
+    same-test _ _
+    (λ e. let z = any-e (λ x. ltb m x) xs e in lt-ltb m (lastOf xs) (omega (arith, ltb-true m (z .0) (z .2), last-most xs r (z .0) (z .1))))
+    (λ e. any-i (λ x. ltb m x) (last-in xs (not-empty xs (ltb-true m (lastOf xs) e))) e)
+  where
+    not-empty : (xs : List ℕ) → m < lastOf xs → 1 ≤ length xs
+    not-empty [] l = absurd (omega arith)
+    not-empty (x ∷ xs) l = omega arith
 
 -- the k-th is in the list
 pub nth-in : (xs : List ℕ) (k : ℕ) → 1 ≤ k → k ≤ length xs → List·Memᴰ (nth xs k) xs

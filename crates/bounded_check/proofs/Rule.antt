@@ -1,22 +1,25 @@
 -- Rule 11 in its parts, as functions that return early find them.
--- Rests on base Orders and Truth, formats Budgets and RuleRead, record_check Records, entry_check Entries, specs Form and Behind.
+-- Rests on base Numbers, Orders and Truth, formats Budgets, Headings and RuleRead, record_check Records, entry_check Entries, specs Form and Behind.
 use mathlib.Core.Path.{_≡_, refl, sym, ap, subst, _∙_}
-use mathlib.Core.Bool.{Bool, true, false, _||_, not, or-assoc, or-false}
+use mathlib.Core.Bool.{Bool, true, false, _||_, not, or-assoc, or-false, or-true}
 use mathlib.Core.List.{List, [], _∷_, map}
-use Prim.Native.Nat.{ℕ, _+_, _*_, _≤_}
+use Prim.Native.Nat.{ℕ, _+_, _*_, _≤_, _<_}
 use native.Mathlib.Omega.{arith}
 use lib.ListN.{length}
-use borrow.Author.Tests.{ltb-false, eq-eqb, ne-eqb}
-use Rattle.base.specs.Lists.{any}
+use lib.Dec.{ltb}
+use borrow.Author.Tests.{lt-ltb, le-ltb, eq-eqb, ne-eqb, not-false}
+use Rattle.base.specs.Lists.{any, rising}
 use Rattle.base.specs.Checks.{refused, outside}
 use Rattle.base.proofs.Truth as truth
+use Rattle.base.proofs.Numbers.{last-above}
 use Rattle.base.proofs.Orders.{pick, inside-of}
-use Rattle.formats.specs.Limits.{leastWords, leastBudgets, mostBudgets, leastCopies, mostCopies, leastBoundedEdges, mostBoundedEdges}
+use Rattle.formats.specs.Limits.{leastWords, mostBudget, leastBudgets, mostBudgets}
 use Rattle.formats.specs.Versions.{budgetsAt, budgetCount, budgetsIn, badBudget, badBudgets}
-use Rattle.formats.specs.BoundedSheet.{Heading, headingOf, heading, entriesIn}
+use Rattle.formats.specs.BoundedSheet.{Heading, heading, entriesIn}
 use Rattle.formats.specs.Rule11.{tooShort, badLimits, wrongLength, badBlocks, badLows, badCopyOrder, notOneOf, badExit, badEdgeOrder}
 use Rattle.formats.specs.Rule11.{badTargetWords, badEntries, noLastEntry, unnamedStart, boundedOrder, boundedRefusal, Formed}
 use Rattle.formats.proofs.Budgets.{bounded-records}
+use Rattle.formats.proofs.Headings.{largest-is}
 use Rattle.formats.proofs.RuleRead.{formed}
 use Rattle.record_check.specs.Records.{badRecords}
 use Rattle.entry_check.specs.Entries.{badEntryWords}
@@ -34,6 +37,38 @@ one-number {I} k (f ∷ fs) i = go (f i) refl (one-number k fs i)
     go true e below = rw (e, refused)
     go false e below = rw (e, refused) below
 
+-- THE FIRST PART, for any header
+module _ (h : Heading) (s : List ℕ) where
+  pub form-is : (a b c d : Bool) → badLimits h s ≡ a → wrongLength h s ≡ b → ltb mostBudget (h .largest) ≡ c → badBudgets s ≡ d
+      → (a || (b || (c || d))) ≡ badForm h s
+  unfolding badForm
+  form-is a b c d p q r t = λ i. sym p i || (sym q i || (sym r i || sym t i))
+
+  pub length-differs : (length s ≡ h .records + 3 * h .copies + 2 * h .edges → ⊥) → wrongLength h s ≡ true
+  unfolding wrongLength
+  length-differs e = ap not (ne-eqb (length s) _ e)
+
+  pub length-fits : length s ≡ h .records + 3 * h .copies + 2 * h .edges → wrongLength h s ≡ false
+  unfolding wrongLength
+  length-fits e = ap not (eq-eqb (length s) _ e)
+
+  -- passed: a row of the length that it says, and a number of budgets
+  module _ (e : badForm h s ≡ false) where
+    pub passed : Formed h s × (1 ≤ budgetCount s)
+    unfolding badForm badBudgets
+    passed =
+        let a = truth.or-false (badLimits h s) _ e in
+        let b = truth.or-false (wrongLength h s) _ (a .1) in
+        let c = truth.or-false (ltb mostBudget (h .largest)) _ (b .1) in
+        let d = truth.or-false (outside leastBudgets mostBudgets (budgetCount s)) _ (c .1) in
+        (formed h s (a .0) (b .0), inside-of leastBudgets mostBudgets (budgetCount s) (d .0) .0)
+
+-- the budgets stand in a row of the length that its header says
+pub budgets-stand : {h : Heading} (s : List ℕ) → h ≡ heading s → length s ≡ h .records + 3 * h .copies + 2 * h .edges
+    → budgetsAt s + budgetCount s ≤ length s
+budgets-stand s q e = let z = ap (λ (x : Heading). x .records) q in omega (arith, bounded-records s)
+
+-- THE ANSWER, by what the parts say of the header that was read
 module _ (s : List ℕ) where
   abbrev h : Heading
   h = heading s
@@ -51,66 +86,59 @@ module _ (s : List ℕ) where
       ∷ inHeader (λ h s. notOneOf h s 2) ∷ inHeader badExit ∷ inHeader badEdgeOrder ∷ inHeader badTargetWords
       ∷ ofEntries badEntries ∷ ofEntries noLastEntry ∷ ofEntries unnamedStart ∷ []
 
-  -- the answer, by what its two parts say; behind one that holds the other may say anything
-  answer-is : (a b : Bool) → badForm s ≡ a → badBehind h s ≡ b → boundedRefusal s ≡ pick (a || b) 11 0
+  rises : badBudgets s ≡ false → rising (budgetsIn s) ≡ true
+  unfolding badBudgets
+  rises e = not-false _ (truth.or-false (outside leastBudgets mostBudgets (budgetCount s)) _ e .1)
+
+  -- where the budgets rise, the test of the last serves for the test of each
+  last-serves : (x : Bool) → (badBudget s || (badBudgets s || x)) ≡ (ltb mostBudget (h .largest) || (badBudgets s || x))
+  unfolding badBudget
+  last-serves x = go (badBudgets s) refl
+    where
+      go : (b : Bool) → badBudgets s ≡ b → (badBudget s || (b || x)) ≡ (ltb mostBudget (h .largest) || (b || x))
+      go true e = or-true (badBudget s) ∙ sym (or-true (ltb mostBudget (h .largest)))
+      go false e = ap (λ (b : Bool). b || x) (last-above mostBudget (budgetsIn s) (rises e) ∙ ap (ltb mostBudget) (sym (largest-is s)))
+
+  -- behind a part that holds the others may say anything
+  answer-is : (a b c : Bool) → tooShort s ≡ a → badForm h s ≡ b → badBehind h s ≡ c → boundedRefusal s ≡ pick (a || (b || c)) 11 0
   unfolding boundedRefusal boundedOrder clauses badForm badBehind badRecords badEntryWords any
-  answer-is a b p q =
-      let parts : any (λ f. f s) clauses ≡ (badForm s || badBehind h s) = simp (or-assoc, or-false) in
-      one-number 11 clauses s ∙ ap (λ (b : Bool). pick b 11 0) parts ∙ (λ i. pick (p i || q i) 11 0)
+  answer-is a b c p q r =
+      let budgets : (badBudget s || (badBudgets s || badBehind h s)) ≡ (ltb mostBudget (h .largest) || (badBudgets s || badBehind h s)) =
+      last-serves (badBehind h s) in
+      let parts : any (λ f. f s) clauses ≡ (tooShort s || (badLimits h s || (wrongLength h s || (badBudget s || (badBudgets s || badBehind h s))))) =
+      simp (or-assoc, or-false) in
+      let whole : (tooShort s || (badLimits h s || (wrongLength h s || (ltb mostBudget (h .largest) || (badBudgets s || badBehind h s)))))
+      ≡ (tooShort s || (badForm h s || badBehind h s)) =
+      simp or-assoc in
+      let both = parts ∙ ap (λ (b : Bool). tooShort s || (badLimits h s || (wrongLength h s || b))) budgets ∙ whole in
+      one-number 11 clauses s ∙ ap (λ (b : Bool). pick b 11 0) both ∙ (λ i. pick (p i || (q i || r i)) 11 0)
 
-  -- and so the first part
-  pub form-is : (a b c d e : Bool) → tooShort s ≡ a → badLimits h s ≡ b → wrongLength h s ≡ c → badBudget s ≡ d → badBudgets s ≡ e
-      → (a || (b || (c || (d || e)))) ≡ badForm s
-  unfolding badForm
-  form-is a b c d e p q r t u = λ i. sym p i || (sym q i || (sym r i || (sym t i || sym u i)))
+  pub short-refuses : length s < leastWords → 11 ≡ boundedRefusal s
+  unfolding tooShort
+  short-refuses l = sym (answer-is true _ _ (lt-ltb (length s) leastWords l) refl refl)
 
-  pub form-refuses : badForm s ≡ true → 11 ≡ boundedRefusal s
-  form-refuses e = sym (answer-is true _ e refl)
+  module _ (l : leastWords ≤ length s) {x : Heading} (q : x ≡ heading s) where
+    long : tooShort s ≡ false
+    unfolding tooShort
+    long = le-ltb (length s) leastWords l
 
-  -- THE FIRST PART PASSED: a header that is there, and a row of the length that it says
-  module _ (e : badForm s ≡ false) where
-    passed : (tooShort s ≡ false) × Formed h s × (badBudgets s ≡ false)
-    unfolding badForm
-    passed =
-        let a = truth.or-false (tooShort s) _ e in
-        let b = truth.or-false (badLimits h s) _ (a .1) in
-        let c = truth.or-false (wrongLength h s) _ (b .1) in
-        let d = truth.or-false (badBudget s) _ (c .1) in
-        (a .0, formed h s (b .0) (c .0), d .1)
+    module _ {a : Bool} (p : a ≡ badForm x s) where
+      said : badForm h s ≡ a
+      said = ap (λ (x : Heading). badForm x s) (sym q) ∙ sym p
 
-    pub header-there : (leastWords ≤ length s) × (heading s .records ≤ length s) × (1 ≤ budgetCount s)
-    unfolding tooShort badBudgets
-    header-there =
-        let F = passed .1 in
-        let n = truth.or-false (outside leastBudgets mostBudgets (budgetCount s)) _ (passed .2) in
-        (ltb-false (length s) leastWords (passed .0), omega (arith, F .size), inside-of leastBudgets mostBudgets (budgetCount s) (n .0) .0)
+      pub form-refuses : a ≡ true → 11 ≡ boundedRefusal s
+      form-refuses e = sym (answer-is false true _ long (said ∙ e) refl)
 
-    -- behind the header that was read
-    module _ {x : Heading} (q : x ≡ heading s) where
-      pub read-formed : Formed x s
-      read-formed = subst (λ (x : Heading). Formed x s) (sym q) (passed .1)
+      module _ (e : a ≡ false) where
+        pub header-there : Formed x s × ((leastWords ≤ length s) × (heading s .records ≤ length s) × (1 ≤ budgetCount s))
+        header-there =
+            let P = passed x s (sym p ∙ e) in
+            let z = ap (λ (x : Heading). x .records) q in
+            (P .0, (l, omega (arith, P .0 .size), P .1))
 
-      pub answer-read : {b r : Bool} → r ≡ badBehind x s → r ≡ b → pick b 11 0 ≡ boundedRefusal s
-      answer-read {b} p t = sym (answer-is false b e (ap (λ (x : Heading). badBehind x s) (sym q) ∙ sym p ∙ t))
-
-  -- what the clauses say of the header that was read
-  module _ {at c f b : ℕ} (q : headingOf at c f b ≡ heading s) where
-    pub limits-are : {r : Bool} → r ≡ (outside leastCopies mostCopies c || outside leastBoundedEdges mostBoundedEdges f) → badLimits h s ≡ r
-    unfolding badLimits
-    limits-are e = ap (λ (x : Heading). badLimits x s) (sym q) ∙ sym e
-
-    pub length-differs : (length s ≡ at + 3 * c + 2 * f → ⊥) → wrongLength h s ≡ true
-    unfolding wrongLength
-    length-differs e = ap (λ (x : Heading). wrongLength x s) (sym q) ∙ ap not (ne-eqb (length s) _ e)
-
-    -- the length that the header says, so that the budgets are there
-    module _ (e : length s ≡ at + 3 * c + 2 * f) where
-      pub length-fits : wrongLength h s ≡ false
-      unfolding wrongLength
-      length-fits = ap (λ (x : Heading). wrongLength x s) (sym q) ∙ ap not (eq-eqb (length s) _ e)
-
-      pub budgets-stand : budgetsAt s + budgetCount s ≤ length s
-      budgets-stand = let z = ap (λ (x : Heading). x .records) q in omega (arith, bounded-records s)
+        pub answer-read : {b r : Bool} → r ≡ badBehind x s → r ≡ b → pick b 11 0 ≡ boundedRefusal s
+        answer-read {b} r t =
+            sym (answer-is false false b long (said ∙ e) (ap (λ (x : Heading). badBehind x s) (sym q) ∙ sym r ∙ t))
 
 -- BEHIND THE HEADER, by the tests of the records, the targets and the entries
 module _ (h : Heading) (s : List ℕ) {p : Bool} (P : p ≡ badRecords h s) where

@@ -2,12 +2,12 @@
 // Rests on words, headers, budgets, record_check, entry_check; the promise is an equation with formats Rule11.
 ghost use mathlib.Core.Path.{_≡_};
 ghost use mathlib.Core.Bool.{false, _&&_, _||_, not};
-ghost use Prim.Native.Nat.{suc, _≤_};
+ghost use Prim.Native.Nat.{suc, _+_, _*_, _≤_, _<_};
 ghost use lib.Dec.{eqb};
 ghost use lib.ListN.{length};
 ghost use Rattle.base.specs.Lists.{from};
 ghost use Rattle.base.specs.Checks.{outside};
-ghost use Rattle.formats.specs.Limits.{leastWords, leastCopies, mostCopies, leastBoundedEdges, mostBoundedEdges};
+ghost use Rattle.formats.specs.Limits.{leastWords, wordLimit, leastCopies, mostCopies, leastBoundedEdges, mostBoundedEdges};
 ghost use Rattle.formats.specs.Versions.{budgetCount, budgetsIn};
 ghost use Rattle.formats.specs.BoundedSheet.{headingOf, heading, entriesIn};
 ghost use Rattle.formats.specs.Rule11.{copiesOf, startCount, badTargetWords, boundedRefusal, Formed};
@@ -15,17 +15,18 @@ ghost use Rattle.record_check.specs.Records.{badRecords};
 ghost use Rattle.entry_check.specs.Entries.{badEntryWords};
 ghost use Rattle.bounded_check.specs.Form.{badForm};
 ghost use Rattle.bounded_check.specs.Behind.{badBehind};
-use budgets::bad_budget;
 use budgets::bad_budgets;
 use entry_check::bad_entry_words;
+use headers::budgets_part;
+use headers::entries_part;
 use headers::is_second;
-use headers::read_budgets;
 use headers::read_heading;
 use record_check::bad_copies;
 use words::LEAST_BOUNDED_EDGES;
 use words::LEAST_COPIES;
 use words::LEAST_WORDS;
 use words::MOST_BOUNDED_EDGES;
+use words::MOST_BUDGET;
 use words::MOST_COPIES;
 use words::field;
 use words::is_either_outside;
@@ -47,21 +48,19 @@ fn bad_limits(c: usize, f: usize) -> bool
     )
 }
 
-// The clauses that go by the header and the length alone.
-fn bad_form(s: &[u16]) -> bool
-    ensures { λ r. ⌜ r ≡ badForm (now (s .entry)) ⌝ }
+// The clauses that go by the header and the length alone. Budgets that rise are within their limit where the last is.
+fn bad_form(s: &[u16], at: usize, c: usize, f: usize, b: usize) -> bool
+    requires { ⌜ (leastWords ≤ length (now s)) × (headingOf at c f b ≡ heading (now s)) ⌝ }
+    requires { ⌜ (c < wordLimit) × (f < wordLimit) × (at ≤ 4 + 2 * wordLimit) ⌝ }
+    ensures { λ r. ⌜ r ≡ badForm (headingOf at c f b) (now (s .entry)) ⌝ }
 {
-    if s.len() < LEAST_WORDS {
+    if bad_limits(c, f) {
         return true;
     }
-    let h = read_heading(s);
-    if bad_limits(h.copies, h.edges) {
+    if s.len() != at + 3 * c + 2 * f {
         return true;
     }
-    if s.len() != h.records + 3 * h.copies + 2 * h.edges {
-        return true;
-    }
-    if bad_budget(s) {
+    if MOST_BUDGET < b {
         return true;
     }
     bad_budgets(s)
@@ -121,13 +120,9 @@ fn bad_entries(s: &[u16], at: usize, c: usize, f: usize, b: usize, k: usize) -> 
     requires { ⌜ (leastWords ≤ length (now s)) × (heading (now s) .records ≤ length (now s)) × (1 ≤ budgetCount (now s)) ⌝ }
     ensures { λ r. ⌜ r ≡ badEntryWords (headingOf at c f b) (now (s .entry)) (budgetsIn (now (s .entry))) (entriesIn (now (s .entry))) ⌝ }
 {
-    let p = read_budgets(s);
-    let first = p.first;
-    let behind = first + p.count;
-    let bs = &s[first..behind];
+    let bs = budgets_part(s);
     if is_second(s) {
-        let end = behind + p.count;
-        let es = &s[behind..end];
+        let es = entries_part(s);
         return bad_entry_words(s, at, c, f, b, k, bs, es);
     }
     let one = [1u16];
@@ -154,10 +149,13 @@ fn bad_behind(s: &[u16], at: usize, c: usize, f: usize, b: usize) -> bool
 pub fn check_bounded(s: &[u16]) -> u16
     ensures { λ r. ⌜ r ≡ boundedRefusal (now (s .entry)) ⌝ }
 {
-    if bad_form(s) {
+    if s.len() < LEAST_WORDS {
         return 11;
     }
     let h = read_heading(s);
+    if bad_form(s, h.records, h.copies, h.edges, h.largest) {
+        return 11;
+    }
     if bad_behind(s, h.records, h.copies, h.edges, h.largest) {
         return 11;
     }

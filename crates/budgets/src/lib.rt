@@ -1,13 +1,15 @@
 // Conditions 4 and 41, on the budgets that both kinds of sheet name in their header. Below the public calls.
-// Rests on words, headers; the promises are equations with formats Versions.
+// Rests on words, headers; the promises are equations with formats Versions and GraphSheet.
 ghost use mathlib.Core.Path.{_≡_};
 ghost use mathlib.Core.Bool.{not};
 ghost use Prim.Native.Nat.{_+_, _≤_};
 ghost use lib.Dec.{ltb};
 ghost use lib.ListN.{length};
 ghost use Rattle.base.specs.Lists.{any, rising};
+ghost use Rattle.base.specs.Checks.{refused};
 ghost use Rattle.formats.specs.Limits.{leastWords, mostBudget};
 ghost use Rattle.formats.specs.Versions.{budgetsAt, budgetCount, badBudget, badBudgets};
+ghost use Rattle.formats.specs.GraphSheet.{budgetOrder};
 use headers::budgets_part;
 use words::LEAST_BUDGETS;
 use words::MOST_BUDGET;
@@ -48,7 +50,7 @@ fn not_rising(bs: &[u16]) -> bool
 // THE CONDITIONS, on a sheet that has its budgets
 
 // Condition 4: a budget above 500.
-pub fn bad_budget(s: &[u16]) -> bool
+fn bad_budget(s: &[u16]) -> bool
     requires { ⌜ (leastWords ≤ length (now s)) × (budgetsAt (now s) + budgetCount (now s) ≤ length (now s)) ⌝ }
     ensures { λ r. ⌜ r ≡ badBudget (now (s .entry)) ⌝ }
 {
@@ -66,4 +68,18 @@ pub fn bad_budgets(s: &[u16]) -> bool
         return true;
     }
     not_rising(bs)
+}
+
+// 4, then 41.
+pub fn budget_answer(s: &[u16]) -> u16
+    requires { ⌜ (leastWords ≤ length (now s)) × (budgetsAt (now s) + budgetCount (now s) ≤ length (now s)) ⌝ }
+    ensures { λ r. ⌜ r ≡ refused budgetOrder (now (s .entry)) ⌝ }
+{
+    if bad_budget(s) {
+        return 4;
+    }
+    if bad_budgets(s) {
+        return 41;
+    }
+    0
 }

@@ -1,11 +1,9 @@
 -- What the steps of a build hand on: the task of a decoded and weighed sheet.
 -- Rests on formats Accepted, calls Area and Weigh, flatten Decoded, specs Within.
-use mathlib.Core.Path.{_≡_, refl, sym, ap, ap₂, subst, _∙_}
+use mathlib.Core.Path.{_≡_, refl, sym, ap, subst, _∙_}
 use mathlib.Core.Bool.{false}
 use mathlib.Core.List.{List}
-use Prim.Native.Nat.{ℕ, _+_, _-_, _≤_}
-use native.Mathlib.Omega.{arith}
-use lib.ListN.{take, drop}
+use Prim.Native.Nat.{ℕ, _≤_}
 use Rattle.base.specs.Lists.{isNone, lastOf}
 use Rattle.base.specs.Cells.{cellCount}
 use Rattle.base.specs.Checks.{refused}
@@ -53,9 +51,3 @@ module _ (w area : List ℕ) (P : Passes w area) where
 
     pub row-cells : {k : ℕ} → cellCount (task w .blocks) (task w .largest) ≤ k → cellCount (blocksIn row) b ≤ k
     row-cells l = rw (D .blocks, q) l
-
--- a part of a sheet from a place on, of so many words
-pub part-is : (w : List ℕ) {a n x y : ℕ} → x ≡ a → y ≡ n → take (x + y - x) (drop x w) ≡ take n (drop a w)
-part-is w {a} {n} {x} {y} p q =
-    let e : x + y - x ≡ y = omega arith in
-    ap₂ (λ (i j : ℕ). take i (drop j w)) (e ∙ q) p

@@ -22,9 +22,9 @@ ghost use Rattle.output.specs.Answer.{answerAt, outputAt};
 ghost use Rattle.build_rows.specs.Within.{Passes};
 use descend::reach;
 use graph_row::blocks_in;
+use headers::budgets_part;
 use headers::is_second;
 use headers::largest;
-use headers::read_budgets;
 use look::fill_lows;
 use number::number;
 use output::write_numbered;
@@ -115,8 +115,6 @@ pub fn build_in_rows(
     }
     let b = largest(s);
     let second = is_second(s);
-    let at = read_budgets(s);
-    let first = at.first;
-    let end = first + at.count;
-    build_weighed(row, area, table, marks, out, &s[first..end], second, b)
+    let bs = budgets_part(s);
+    build_weighed(row, area, table, marks, out, bs, second, b)
 }

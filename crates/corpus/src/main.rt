@@ -40,9 +40,6 @@ fn main() {
             return;
         }
         let length = wide(head[0]) + 256 * wide(head[1]);
-        if LONGER_FILE < 2 * length {
-            return;
-        }
         list_sheet(&mut bytes, &mut text, 2 * length);
         turns -= 1;
     }

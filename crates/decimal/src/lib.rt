@@ -1,5 +1,5 @@
 // A row of words written as lines of decimal words.
-// Rests on words, headers, digits and heading_line; the promises say the whole row, by digits Wrote and specs Writing.
+// Rests on words, headers, digits; the promises say the whole row, by digits Wrote and specs Writing.
 ghost use mathlib.Core.Path.{_≡_};
 ghost use mathlib.Core.List.{map};
 ghost use Prim.Native.Nat.{_+_, _*_, _≤_};
@@ -10,9 +10,9 @@ ghost use Rattle.decimal.specs.Writing.{records, linesText, sheetText, t
 use digits::NEWLINE;
 use digits::put_byte;
 use digits::put_decimal;
+use digits::put_numbers;
 use headers::read_header;
 use headers::read_heading;
-use heading_line::put_numbers;
 use words::LEAST_WORDS;
 use words::word_at;
 

@@ -6,3 +6,5 @@ pub mod Decimals
 pub mod Room
 -- a line of numbers, part by part: numbers-line
 pub mod NumberLine
+-- words as numbers behind spaces, one more at a time: numbers-next
+pub mod Numbers

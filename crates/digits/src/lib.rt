@@ -1,11 +1,13 @@
 // Bytes and decimal numbers, written into a lent row of bytes.
-// Rests on formats Listing `decimal`.
+// Rests on words; numbers are written by formats Listing.
 ghost use mathlib.Core.List.{[], _∷_, _++_};
 ghost use Prim.Native.Nat.{_+_, _<_, _≤_};
 ghost use lib.ListN.{length};
+ghost use Rattle.base.specs.Lists.{each};
 ghost use Rattle.formats.specs.Listing.{decimal};
 ghost use Rattle.digits.specs.Wrote.{Wrote};
 ghost use Rattle.digits.specs.Spaced.{spaced};
+use words::word_at;
 
 pub const SPACE: u8 = 32;
 
@@ -55,6 +57,20 @@ pub fn put_number(text: &mut [u8], at: usize, n: usize) -> usize
 {
     let p = put_byte(text, at, SPACE);
     put_decimal(text, p, n)
+}
+
+// Writes words, each behind a space, from the place `at` on.
+pub fn put_numbers(ws: &[u16], text: &mut [u8], at: usize) -> usize
+    requires { ⌜ at + length (each spaced (now ws)) ≤ length (now text) ⌝ }
+    ensures { λ r. ⌜ Wrote (now (text .entry)) at (each spaced (now (ws .entry))) (now (text .exit)) r ⌝ }
+{
+    let mut p = at;
+    let mut i = 0;
+    while i < ws.len() {
+        p = put_number(text, p, word_at(ws, i));
+        i += 1;
+    }
+    p
 }
 
 // Writes a name, a space and a number.

@@ -1,5 +1,5 @@
 // THE DECODER: a graph sheet that passes its checks becomes a flat row, once. No other code behind the checks knows a graph's chains.
-// Rests on words, chains, graph_row; what a decoded row holds is specs Decoded.
+// Rests on words, chains; what a decoded row holds is specs Decoded.
 ghost use mathlib.Core.Path.{_≡_};
 ghost use Prim.Native.Nat.{_+_, _-_, _*_, _≤_, _<_};
 ghost use lib.ListN.{length, set};

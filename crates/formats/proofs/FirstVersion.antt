@@ -20,7 +20,7 @@ use Rattle.formats.specs.BoundedSheet.{heading, entriesIn, lowAt, target
 use Rattle.formats.specs.Rule11.{copiesOf, notOneOf, startCount, badLows, badTargetWords, entryFits, badEntries, noLastEntry, unnamedStart}
 use Rattle.formats.specs.Rule11.{Ruled, Entered}
 use Rattle.formats.proofs.Headings.{read-proper, largest-is}
-use Rattle.formats.proofs.RuleRead.{starts-front, start-out, entry-names, start-named}
+use Rattle.formats.proofs.RuleRead.{starts-front, ordered-out, entry-names, start-named}
 
 module _ (s : List ℕ) (R : Ruled (heading s) s) (long : 3 ≤ length s) (first : isSecond s ≡ false) where
   there : heading s .records ≤ length s
@@ -44,7 +44,7 @@ module _ (s : List ℕ) (R : Ruled (heading s) s) (long : 3 ≤ length s) (first
   unfolding badEntries noLastEntry unnamedStart entryFits badLows lastOf
   one-entered e =
       let h = heading s in
-      let o = start-out h s R 1 (omega arith) (omega arith) in
+      let o = ordered-out h s (R .blocks) (R .order) 1 (omega arith) (omega arith) in
       let low : lowAt h s 1 ≤ nth (budgetsIn s) 1
       = omega (
         arith,

@@ -266,12 +266,6 @@ module _ (h : Heading) (s : List ℕ) (C : Ruled h s) where
   pub starts-front : copiesOf h s 1 ≡ from 1 (startCount h s)
   starts-front = ordered-front h s (C .blocks) (C .order)
 
-  pub start-in : (i : ℕ) → 1 ≤ i → i ≤ h .copies → blockAt h s i ≡ 1 → i ≤ startCount h s
-  start-in = ordered-in h s (C .blocks) (C .order)
-
-  pub start-out : (i : ℕ) → 1 ≤ i → i ≤ startCount h s → (i ≤ h .copies) × (blockAt h s i ≡ 1)
-  start-out = ordered-out h s (C .blocks) (C .order)
-
   pub starts-most : startCount h s ≤ h .copies
   starts-most = ordered-most h s (C .blocks) (C .order)
 
@@ -281,11 +275,11 @@ module _ (h : Heading) (s : List ℕ) (C : Ruled h s) where
     most = omega (arith, starts-most, rows-length);
     is = λ i r c l.
         let t = row-is i r c in
-        sym (ap (λ (r : Row). r .copy .block) (t .1)) ∙ start-out i (from-e (h .copies) 1 i (t .0) .0) l .1;
+        sym (ap (λ (r : Row). r .copy .block) (t .1)) ∙ ordered-out h s (C .blocks) (C .order) i (from-e (h .copies) 1 i (t .0) .0) l .1;
     only = λ i r c b.
         let t = row-is i r c in
         let m = from-e (h .copies) 1 i (t .0) in
-        start-in i (m .0) (omega arith) (ap (λ (r : Row). r .copy .block) (t .1) ∙ b);
+        ordered-in h s (C .blocks) (C .order) i (m .0) (omega arith) (ap (λ (r : Row). r .copy .block) (t .1) ∙ b);
   }
 
   pub row-fits : (i : ℕ) → List·Memᴰ i (from 1 (h .copies)) → RowFits (length (rows h s)) (startCount h s) (h .largest) (rowAt h s i)
@@ -350,7 +344,7 @@ module _ (h : Heading) (s : List ℕ) (C : Ruled h s) where
         let a = and-e (not (outside 1 (h .copies) e)) _ u in
         let b = and-e (eqb (blockAt h s e) 1) _ (a .1) in
         let i = inside-of 1 (h .copies) e (not-true _ (a .0)) in
-        (i .0, start-in e (i .0) (i .1) (eqb-true _ 1 (b .0)), ltb-false (nth bs j) (lowAt h s e) (not-true _ (b .1)))
+        (i .0, ordered-in h s (C .blocks) (C .order) e (i .0) (i .1) (eqb-true _ 1 (b .0)), ltb-false (nth bs j) (lowAt h s e) (not-true _ (b .1)))
 
     pub start-named : (i : ℕ) → 1 ≤ i → i ≤ startCount h s → List·Memᴰ i es
     unfolding unnamedStart

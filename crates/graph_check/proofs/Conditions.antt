@@ -3,8 +3,8 @@
 use mathlib.Core.Path.{_≡_, refl, sym, ap, _∙_}
 use mathlib.Core.Bool.{Bool, true, false, not}
 use mathlib.Core.List.{List, _++_}
-use Prim.Native.Nat.{ℕ, _≤_}
-use borrow.Author.Tests.{ltb-false}
+use Prim.Native.Nat.{ℕ, _≤_, _<_}
+use borrow.Author.Tests.{lt-ltb, le-ltb}
 use lib.ListN.{length}
 use Rattle.base.specs.Lists.{any, all, from}
 use Rattle.base.specs.Checks.{refused}
@@ -24,26 +24,29 @@ abbrev costs : List ℕ → Bool
 costs w = badCosts (header w) w
 
 module _ (w : List ℕ) where
-  -- the whole order is the form, then 5, then 6 to 8
-  pub form-refuses : (refused formOrder w ≡ 0 → ⊥) → sheetRefusal w ≡ refused formOrder w
-  unfolding sheetRefusal sheetOrder
-  form-refuses n = append-stops formOrder (costOrder ++ edgeOrder) w n
+  pub short-refuses : length w < leastWords → 1 ≡ sheetRefusal w
+  unfolding sheetRefusal sheetOrder short
+  short-refuses l = sym (tested 1 short _ w (lt-ltb (length w) leastWords l) refl)
 
-  pub form-passes : refused formOrder w ≡ 0 → sheetRefusal w ≡ refused (costOrder ++ edgeOrder) w
-  unfolding sheetRefusal sheetOrder all
-  form-passes e = append-passes formOrder (costOrder ++ edgeOrder) w refl e
+  -- behind 1 the order is the form, then 5, then 6 to 8
+  module _ (long : leastWords ≤ length w) where
+    one-passes : sheetRefusal w ≡ refused (formOrder ++ costOrder ++ edgeOrder) w
+    unfolding sheetRefusal sheetOrder short
+    one-passes = tested 1 short _ w (le-ltb (length w) leastWords long) refl
+
+    pub form-refuses : (refused formOrder w ≡ 0 → ⊥) → sheetRefusal w ≡ refused formOrder w
+    form-refuses n = one-passes ∙ append-stops formOrder (costOrder ++ edgeOrder) w n
+
+    pub form-passes : refused formOrder w ≡ 0 → sheetRefusal w ≡ refused (costOrder ++ edgeOrder) w
+    unfolding all
+    form-passes e = one-passes ∙ append-passes formOrder (costOrder ++ edgeOrder) w refl e
 
   -- the form passed
-  pub form-long : refused formOrder w ≡ 0 → leastWords ≤ length w
-  unfolding short
-  form-long e = ltb-false (length w) leastWords (unrefused 0 short _ w e .0)
-
   pub form-formed : refused formOrder w ≡ 0 → Formed (header w) w
   form-formed e =
-      let a = unrefused 0 short _ w e in
-      let b = unrefused 1 _ _ w (a .1) in
-      let c = unrefused 2 _ _ w (b .1) in
-      formed (header w) w (b .0) (c .0)
+      let a = unrefused 1 _ _ w e in
+      let b = unrefused 2 _ _ w (a .1) in
+      formed (header w) w (a .0) (b .0)
 
   -- 5, then 6 to 8, behind the header that was read
   module _ {h : Header} (q : h ≡ header w) where

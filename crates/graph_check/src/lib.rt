@@ -9,6 +9,7 @@ use edge_check::bad_chains;
 use edge_check::bad_targets;
 use form_check::form_answer;
 use headers::read_header;
+use words::LEAST_WORDS;
 use words::field;
 
 // Blocks 1 and 2 cost 0, every other block more.
@@ -58,11 +59,14 @@ pub fn edge_answer(s: &[u16], at: usize, n: usize, m: usize) -> u16
 pub fn check_graph(s: &[u16]) -> u16
     ensures { λ r. ⌜ r ≡ sheetRefusal (now (s .entry)) ⌝ }
 {
-    let a = form_answer(s);
+    if s.len() < LEAST_WORDS {
+        return 1;
+    }
+    let h = read_header(s);
+    let a = form_answer(s, h.records, h.blocks, h.edges);
     if a != 0 {
         return a;
     }
-    let h = read_header(s);
     if bad_costs(s, h.records, h.blocks, h.edges) {
         return 5;
     }

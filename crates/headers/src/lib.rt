@@ -1,6 +1,7 @@
 // THE HEADERS of both kinds of sheet, in both versions, each read once: everything behind them takes what they say as numbers. Below the
 // public calls. Rests on words; the definitions are formats Versions, GraphSheet and BoundedSheet.
 ghost use mathlib.Core.Path.{_≡_};
+ghost use mathlib.Core.Bool.{true};
 ghost use Prim.Native.Nat.{_+_, _*_, _≤_, _<_};
 ghost use lib.ListN.{length};
 ghost use Rattle.base.specs.Lists.{nth};
@@ -173,4 +174,15 @@ pub fn entry(s: &[u16], k: usize) -> usize
         return word_at(s, 4 + n + (k - 1));
     }
     1
+}
+
+// The entries of a sheet of the second version, a part of it.
+pub fn entries_part(s: &[u16]) -> &[u16]
+    requires { ⌜ (leastWords ≤ length (now s)) × (isSecond (now s) ≡ true) × (heading (now s) .records ≤ length (now s)) ⌝ }
+    ensures { λ r. ⌜ now r ≡ entriesIn (now (s .entry)) ⌝ }
+{
+    let n = third_word(s);
+    let first = 4 + n;
+    let end = first + n;
+    &s[first..end]
 }

@@ -1,31 +1,14 @@
-// The heading of a listing, and words as numbers behind spaces, written into a lent row of bytes.
-// Rests on words and digits; the promises say the whole row, by digits Wrote and specs Heading.
-ghost use Prim.Native.Nat.{_+_, _≤_};
+// The heading of a listing, written into a lent row of bytes.
+// Rests on digits; the promises say the whole row, by digits Wrote and specs Heading.
+ghost use Prim.Native.Nat.{_≤_};
 ghost use lib.ListN.{length};
-ghost use Rattle.base.specs.Lists.{each};
 ghost use Rattle.digits.specs.Wrote.{Wrote};
-ghost use Rattle.digits.specs.Spaced.{spaced};
 ghost use Rattle.heading_line.specs.Heading.{headingText};
 use digits::NEWLINE;
 use digits::put_byte;
 use digits::put_bytes;
 use digits::put_named;
-use digits::put_number;
-use words::word_at;
-
-// Writes words, each behind a space, from the place `at` on.
-pub fn put_numbers(ws: &[u16], text: &mut [u8], at: usize) -> usize
-    requires { ⌜ at + length (each spaced (now ws)) ≤ length (now text) ⌝ }
-    ensures { λ r. ⌜ Wrote (now (text .entry)) at (each spaced (now (ws .entry))) (now (text .exit)) r ⌝ }
-{
-    let mut p = at;
-    let mut i = 0;
-    while i < ws.len() {
-        p = put_number(text, p, word_at(ws, i));
-        i += 1;
-    }
-    p
-}
+use digits::put_numbers;
 
 // Writes the heading: C, F and the budgets.
 pub fn write_heading(text: &mut [u8], c: usize, f: usize, bs: &[u16]) -> usize

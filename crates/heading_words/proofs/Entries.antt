@@ -51,7 +51,8 @@ module _ {row marks numbers bs : List ℕ} {b : ℕ} (L : Named row marks number
     is-nth = let e : suc i - 1 ≡ i = omega arith in w ∙ ap (λ (k : ℕ). getD bs k 0) (sym e)
 
     small : c ≤ b
-    small = omega (arith, L .largest, largest-most (L .claims) c (subst (λ (x : ℕ). List·Memᴰ x bs) (sym is-nth) (nth-in bs (suc i) (omega arith) (omega arith))))
+    small =
+        omega (arith, L .largest, largest-most (L .claims) c (subst (λ (x : ℕ). List·Memᴰ x bs) (sym is-nth) (nth-in bs (suc i) (omega arith) (omega arith))))
 
     pub number-fits : Within b 1 c × ((cellOf b 1 c < length marks) × (cellOf b 1 c < length numbers))
         × (marked b marks 1 c ≡ false → getD numbers (cellOf b 1 c) 0 ≤ suc c)

@@ -1,5 +1,5 @@
 -- A cell that is stored into a row has what was stored, and every other cell keeps what it had.
--- Rests on cells Cells.
+-- Rests on base Cells.
 use mathlib.Core.Path.{_≡_, ap, _∙_}
 use mathlib.Core.List.{List}
 use Prim.Native.Nat.{ℕ, _≤_, _<_}

@@ -11,6 +11,7 @@ ghost use Rattle.record_check.specs.Records.{badRecords};
 ghost use Rattle.record_check.specs.Chains.{Consecutive};
 use copy_check::is_bad_copy;
 use words::field;
+use words::word_at;
 
 // Follows the chain from `first` on, whose edges are to be `due`, `due` + 1, ..: the number behind its last edge, 0 where it has others.
 fn chain_end(s: &[u16], base: usize, m: usize, first: usize, due: usize) -> usize
@@ -44,7 +45,8 @@ fn tally(count: usize, v: usize, w: usize) -> usize
     count
 }
 
-// One pass over the copies: a bad copy, not one copy of block 2, or chains that do not meet the edges 1 to F in this order.
+// One pass over the copies, of which copy i has the words from the word p on: a bad copy, not one copy of block 2, or chains that do not meet
+// the edges 1 to F in this order.
 pub fn bad_copies(s: &[u16], at: usize, c: usize, f: usize, b: usize) -> bool
     requires { ⌜ Formed (headingOf at c f b) (now s) ⌝ }
     ensures { λ r. ⌜ r ≡ badRecords (headingOf at c f b) (now (s .entry)) ⌝ }
@@ -55,10 +57,11 @@ pub fn bad_copies(s: &[u16], at: usize, c: usize, f: usize, b: usize) -> bool
     let mut twos = 0;
     let mut e = 1;
     let mut i = 1;
+    let mut p = at;
     while i <= c {
-        let v = field(s, at, 3, i, 0);
-        let a = field(s, at, 3, i, 1);
-        let first = field(s, at, 3, i, 2);
+        let v = word_at(s, p);
+        let a = word_at(s, p + 1);
+        let first = word_at(s, p + 2);
         if is_bad_copy(b, w, l, v, a, first) {
             return true;
         }
@@ -71,6 +74,7 @@ pub fn bad_copies(s: &[u16], at: usize, c: usize, f: usize, b: usize) -> bool
         w = v;
         l = a;
         i += 1;
+        p += 3;
     }
     if twos != 1 {
         return true;

@@ -248,7 +248,8 @@ module _ (S : Setting) where
   unfolding copiesFrom
   reached-in j c r =
       let h = sound r in
-      keep-i (λ c. isIn c all-reached) (candidates (S .task .blocks) (S .task .largest)) (candidate (S .task .blocks) (S .task .largest) c (h .place) (h .small))
+      keep-i (λ c. isIn c all-reached) (candidates (S .task .blocks) (S .task .largest))
+      (candidate (S .task .blocks) (S .task .largest) c (h .place) (h .small))
       (mem-isIn c all-reached
       (spread-le g (starts S) (suc (S .task .largest)) j c (omega (arith, h .time)) (reached-spread g L (starts S) start-paid r)))
 

@@ -20,7 +20,9 @@ set-cell-requires c κs =
     (e .0, e .1)
 
 put-requires : tie.Need-put-requires
-put-requires c κs = (omega arith, omega arith, omega (arith, c .before .before .before .before .before .before .before .before .before .before .before .before .before .pre .1 .1 .1))
+put-requires c κs =
+    let start = c .before .before .before .before .before .before .before .before .before .before .before .before .before in
+    (omega arith, omega arith, omega (arith, start .pre .1 .1 .1))
 
 returns : tie.Need-returns
 returns c =

@@ -56,18 +56,23 @@ set-cell-requires c κs =
 
 returns-3 : tie.Need-returns-3
 returns-3 c =
+    let cost-in = c .before .before .before .before .before .before .before .before .before .before .before .before .cost-in in
+    let meet′ = c .before .before .before .before .before .before .before .before .before .meet in
+    let if2 = c .before .before .before .before .before .before .before .before .if2 in
+    let if1 = c .before .before .before .before .before .before .before .before .before .before .before .if1 in
+    let put = c .before .before .before .before .before .before .put in
     let z = c .before .before .before .before .before .before .before .before .before .before .before .before .before .before .before .before .before in
     let K = z .pre .1 .0 in
     let p = z .pre .1 .1 .0 in
-    let o = c .before .before .before .before .before .before .before .before .before .before .before .before .cost-in .ensures .0 ∙ sym (cost-is _ _ (p .0) (p .1)) in
-    let C = c .before .before .before .before .before .before .before .before .before .meet .ensures .yes (not-false _ (c .before .before .before .before .before .before .before .before .if2 .left)) in
-    let m = met-completes K o (p .3) (c .before .before .before .before .before .before .before .before .before .before .before .if1 .left) C in
+    let o = cost-in .ensures .0 ∙ sym (cost-is _ _ (p .0) (p .1)) in
+    let C = meet′ .ensures .yes (not-false _ (if2 .left)) in
+    let m = met-completes K o (p .3) (if1 .left) C in
     let s = c .before .before .set-cell .ensures in
     let w = wrote (K .fair) (p .0, p .1) (p .3) m s in
     let h = wrote-it (K .fair) (p .0, p .1) (p .3) m s in (
       w,
       (
-        record { listed = K .listed; fair = w .fair; mirror = mirror-put (K .fair .ready) (K .mirror) (p .0, p .1) (p .3) (c .before .before .before .before .before .before .put .ensures) s h },
+        record { listed = K .listed; fair = w .fair; mirror = mirror-put (K .fair .ready) (K .mirror) (p .0, p .1) (p .3) (put .ensures) s h },
         λ _. h,
       ),
     )

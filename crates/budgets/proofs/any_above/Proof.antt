@@ -30,13 +30,15 @@ word-at-requires c κs = omega (arith, c .before .loop .inv .least)
 
 returns : tie.Need-returns Inv-loop μ-loop
 returns c =
+    let start = c .before .before .before .before .before in
     let l = c .before .before .before .loop in
-    found (l .inv) (c .before .before .loop-test .taken) (is-above (c .before .before .before .before .before .args .bs .now) (l .k) (c .before .word-at .ensures .0) (c .if1 .taken))
+    found (l .inv) (c .before .before .loop-test .taken) (is-above (start .args .bs .now) (l .k) (c .before .word-at .ensures .0) (c .if1 .taken))
 
 loop-again : tie.Need-loop-again Inv-loop μ-loop
 loop-again c =
+    let start = c .before .before .before .before .before in
     let l = c .before .before .before .loop in
-    onward (l .inv) (c .before .before .loop-test .taken) (not-above (c .before .before .before .before .before .args .bs .now) (l .k) (c .before .word-at .ensures .0) (c .if1 .left))
+    onward (l .inv) (c .before .before .loop-test .taken) (not-above (start .args .bs .now) (l .k) (c .before .word-at .ensures .0) (c .if1 .left))
 
 returns-2 : tie.Need-returns-2 Inv-loop μ-loop
 returns-2 c = none (c .before .loop .inv) (c .loop-test .left)

@@ -29,13 +29,17 @@ word-at-requires-2 c κs = omega (arith, c .before .before .loop .inv .least)
 
 returns : tie.Need-returns Inv-loop μ-loop
 returns c =
+    let start = c .before .before .before .before .before .before in
     let l = c .before .before .before .before .loop in
-    found (l .inv) (omega arith) (not-below (c .before .before .before .before .before .before .args .bs .now) (l .k) (c .before .word-at2 .ensures .0) (c .before .before .word-at .ensures .0) (c .if1 .taken))
+    found (l .inv) (omega arith)
+    (not-below (start .args .bs .now) (l .k) (c .before .word-at2 .ensures .0) (c .before .before .word-at .ensures .0) (c .if1 .taken))
 
 loop-again : tie.Need-loop-again Inv-loop μ-loop
 loop-again c =
+    let start = c .before .before .before .before .before .before in
     let l = c .before .before .before .before .loop in
-    onward (l .inv) (omega arith) (is-below (c .before .before .before .before .before .before .args .bs .now) (l .k) (c .before .word-at2 .ensures .0) (c .before .before .word-at .ensures .0) (c .if1 .left))
+    onward (l .inv) (omega arith)
+    (is-below (start .args .bs .now) (l .k) (c .before .word-at2 .ensures .0) (c .before .before .word-at .ensures .0) (c .if1 .left))
 
 returns-2 : tie.Need-returns-2 Inv-loop μ-loop
 returns-2 c = none (c .before .loop .inv) (omega arith)

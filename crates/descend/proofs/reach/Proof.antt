@@ -35,14 +35,16 @@ returns c =
     let s = c .before .before .before in
     let l = s .before .before .before .before in
     let y = s .set-out .ensures in
-    let o = only-on (l .before .loop .inv) (l .loop-test .taken) (s .before .before .before .word-at .ensures .0) (s .before .before .entry .ensures .0) _ (y .1 .0) in
+    let o = only-on (l .before .loop .inv) (l .loop-test .taken) (s .before .before .before .word-at .ensures .0)
+    (s .before .before .entry .ensures .0) _ (y .1 .0) in
     (same-length c, outset-stops _ _ _ _ o (sym (c .if1 .taken) ∙ y .0))
 
 loop-again : tie.Need-loop-again Inv-loop μ-loop
 loop-again c =
     let s = c .before .before .before in
     let l = s .before .before .before .before in
-    outset-on (l .before .loop .inv) (l .loop-test .taken) (s .before .before .before .word-at .ensures .0) (s .before .before .entry .ensures .0) (s .set-out .ensures)
+    outset-on (l .before .loop .inv) (l .loop-test .taken) (s .before .before .before .word-at .ensures .0) (s .before .before .entry .ensures .0)
+    (s .set-out .ensures)
     (omega (arith, c .if1 .left)) (s .set-out .kept .1 .1 .0)
 
 same-length-2 : tie.Need-same-length-2 Inv-loop μ-loop

@@ -44,13 +44,16 @@ degree-in-requires c κs =
 
 returns-3 : tie.Need-returns-3
 returns-3 c =
+    let if1 = c .before .before .before .before .before .before .before .before .before .if1 in
+    let is-marked = c .before .before .before .before .before .before .before .is-marked in
+    let if2 = c .before .before .before .before .before .before .if2 in
     let d = c .before .before .before .before in
-    let f = c .before .before .before .before .before .before .before .before .before .if1 .left in
+    let f = if1 .left in
     let z = c .before .before .before .before .before .before .before .before .before .before .before .before .before in
     let y = z .pre in
     let P = start-fits (y .0) (y .1 .0) (y .1 .1 .0) f in
     let e = d .mark .ensures in
-    let n = sym (c .before .before .before .before .before .before .before .is-marked .ensures) ∙ c .before .before .before .before .before .before .if2 .left in
+    let n = sym (is-marked .ensures) ∙ if2 .left in
     let q = next-length _ _ (P .block .0) (P .block .1) (y .0) ∙ sym (c .before .degree-in .ensures .0) in
     let h = copy-edges (y .1 .0) P e n q (y .1 .1 .1) in (
       omega arith,
@@ -59,13 +62,16 @@ returns-3 c =
 
 follow-requires : tie.Need-follow-requires
 follow-requires c κs =
+    let if1 = c .before .before .before .before .before .before .before .before .before .before .if1 in
+    let is-marked = c .before .before .before .before .before .before .before .before .is-marked in
+    let if2 = c .before .before .before .before .before .before .before .if2 in
     let d = c .before .before .before .before .before in
-    let f = c .before .before .before .before .before .before .before .before .before .before .if1 .left in
+    let f = if1 .left in
     let z = c .before .before .before .before .before .before .before .before .before .before .before .before .before .before in
     let y = z .pre in
     let P = start-fits (y .0) (y .1 .0) (y .1 .1 .0) f in
     let e = d .mark .ensures in
-    let n = sym (c .before .before .before .before .before .before .before .before .is-marked .ensures) ∙ c .before .before .before .before .before .before .before .if2 .left in
+    let n = sym (is-marked .ensures) ∙ if2 .left in
     let q = next-length _ _ (P .block .0) (P .block .1) (y .0) ∙ sym (c .before .before .degree-in .ensures .0) in
     (y .0, (ready-on (y .1 .0) P e, (omega (arith, P .block, P .low), copy-edges (y .1 .0) P e n q (y .1 .1 .1))))
 

@@ -13,8 +13,9 @@ say-place-requires c κs = let h = c .before .before .pre in (omega (arith, h .0
 
 say-what-requires : tie.Need-say-what-requires
 say-what-requires c κs =
+    let start = c .before .before .before .before .before .before in
     let p = c .before .before .before .say-place in
-    (c .before .before .before .before .before .before .pre .2, omega (arith, c .before .before .before .before .before .before .pre .3, p .ensures .1, p .kept .1 .1 .0))
+    (start .pre .2, omega (arith, start .pre .3, p .ensures .1, p .kept .1 .1 .0))
 
 put-byte-requires : tie.Need-put-byte-requires
 put-byte-requires c κs =
@@ -34,9 +35,12 @@ put-byte-requires c κs =
 returns : tie.Need-returns
 unfolding saidText
 returns c =
+    let start = c .before .before .before .before .before .before .before .before .before .before .before .before .before in
+    let say-place = c .before .before .before .before .before .before .before .before .before .before .say-place in
+    let say-what = c .before .before .before .before .before .before .say-what in
     let put = c .before .before .put-byte in
-    let room = put-byte-requires (c .before .before .before) (c .before .before .before .before .before .before .before .before .before .before .before .before .before .κs) in (
-      wrote-then (c .before .before .before .before .before .before .before .before .before .before .say-place .ensures .0) (wrote-then (c .before .before .before .before .before .before .say-what .ensures) (put .ensures)),
+    let room = put-byte-requires (c .before .before .before) (start .κs) in (
+      wrote-then (say-place .ensures .0) (wrote-then (say-what .ensures) (put .ensures)),
       omega (arith, room, put .ensures .is-end, put .kept .0),
     )
 

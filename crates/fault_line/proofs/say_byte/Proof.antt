@@ -11,7 +11,8 @@ use Rattle.fault_line.proofs.say_byte.Statement.{statement}
 use Rattle.fault_line.proofs.say_byte.Tie as tie
 
 put-named-requires : tie.Need-put-named-requires
-put-named-requires c κs = let z = c .before .before .before in omega (arith, z .pre .1, length-append byteName (spaced (z .args .b)), spaced-7 (z .args .b) (z .pre .0))
+put-named-requires c κs =
+    let z = c .before .before .before in omega (arith, z .pre .1, length-append byteName (spaced (z .args .b)), spaced-7 (z .args .b) (z .pre .0))
 
 put-bytes-requires : tie.Need-put-bytes-requires
 put-bytes-requires c κs =

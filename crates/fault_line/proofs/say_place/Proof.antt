@@ -41,8 +41,10 @@ put-bytes-requires c κs =
 returns : tie.Need-returns
 unfolding placeText
 returns c =
+    let put-named = c .before .before .before .before .before .before .before .before .before .before .before .before .put-named in
+    let put-named2 = c .before .before .before .before .before .before .before .put-named2 in
     let z = c .before .before .before .before .before .before .before .before .before .before .before .before .before .before .before .before in
-    let W = wrote-then (c .before .before .before .before .before .before .before .before .before .before .before .before .put-named .ensures) (wrote-then (c .before .before .before .before .before .before .before .put-named2 .ensures) (c .before .before .put-bytes .ensures)) in
+    let W = wrote-then (put-named .ensures) (wrote-then (put-named2 .ensures) (c .before .before .put-bytes .ensures)) in
     (W, omega (arith, W .is-end, place-length (z .args .line) (z .args .column) (z .pre .0) (z .pre .1)))
 
 pub say-place-spec : {M : Type 1} → statement M

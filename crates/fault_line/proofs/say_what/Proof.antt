@@ -21,19 +21,30 @@ put-bytes-requires c κs =
     omega (arith, z .pre .1, n .ensures .is-end, n .kept .0, digits-7 (z .args .found) (z .pre .0))
 
 returns-2 : tie.Need-returns-2
-returns-2 c = wrote-as (wrote-then (c .before .before .before .before .before .before .before .put-decimal .ensures) (c .before .before .put-bytes .ensures)) (text-large _ (c .before .before .before .before .before .before .before .before .before .if2 .taken))
+returns-2 c =
+    let put-decimal = c .before .before .before .before .before .before .before .put-decimal in
+    let if2 = c .before .before .before .before .before .before .before .before .before .if2 in
+    wrote-as (wrote-then (put-decimal .ensures) (c .before .before .put-bytes .ensures)) (text-large _ (if2 .taken))
 
 put-bytes-requires-2 : tie.Need-put-bytes-requires-2
 put-bytes-requires-2 c κs = omega (arith, c .before .before .before .before .before .before .pre .1)
 
 returns-3 : tie.Need-returns-3
-returns-3 c = wrote-as (c .before .before .put-bytes2 .ensures) (text-many (c .before .before .before .before .before .before .before .before .before .args .found) (c .before .before .before .before .before .if3 .taken))
+returns-3 c =
+    let start = c .before .before .before .before .before .before .before .before .before in
+    let if3 = c .before .before .before .before .before .if3 in
+    wrote-as (c .before .before .put-bytes2 .ensures) (text-many (start .args .found) (if3 .taken))
 
 put-bytes-requires-3 : tie.Need-put-bytes-requires-3
 put-bytes-requires-3 c κs = omega (arith, c .before .before .before .before .before .before .pre .1)
 
 returns-4 : tie.Need-returns-4
-returns-4 c = wrote-as (c .before .before .put-bytes3 .ensures) (text-nothing (c .before .before .before .before .before .before .before .before .before .args .found) (c .before .before .before .before .before .before .before .if1 .left) (c .before .before .before .before .before .before .if2 .left) (c .before .before .before .before .before .if3 .left))
+returns-4 c =
+    let start = c .before .before .before .before .before .before .before .before .before in
+    let if1 = c .before .before .before .before .before .before .before .if1 in
+    let if2 = c .before .before .before .before .before .before .if2 in
+    let if3 = c .before .before .before .before .before .if3 in
+    wrote-as (c .before .before .put-bytes3 .ensures) (text-nothing (start .args .found) (if1 .left) (if2 .left) (if3 .left))
 
 pub say-what-spec : {M : Type 1} → statement M
 say-what-spec =

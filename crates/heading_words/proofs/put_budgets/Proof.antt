@@ -28,7 +28,11 @@ put-one-requires c κs =
     (omega (arith, c .before .before .loop-test .taken, P .room, putting-length P), c .before .word-at .ensures .1)
 
 loop-again : tie.Need-loop-again Inv-loop μ-loop
-loop-again c = putting-on (c .before .before .before .before .before .before .loop .inv) (c .before .before .before .before .before .loop-test .taken) (c .before .before .before .before .word-at .ensures .0) (c .before .before .put-one .ensures)
+loop-again c =
+    let loop = c .before .before .before .before .before .before .loop in
+    let loop-test = c .before .before .before .before .before .loop-test in
+    let word-at = c .before .before .before .before .word-at in
+    putting-on (loop .inv) (loop-test .taken) (word-at .ensures .0) (c .before .before .put-one .ensures)
 
 same-length : tie.Need-same-length Inv-loop μ-loop
 same-length c = putting-length (c .before .loop .inv)

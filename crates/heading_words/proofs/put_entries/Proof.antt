@@ -31,20 +31,29 @@ number-of-requires c κs =
 
 add-put-one : tie.Need-add-put-one Inv-loop μ-loop
 add-put-one c =
-    let P = c .before .before .before .before .loop .inv .1 in
-    record { fits = omega (arith, P .room, c .before .before .before .loop-test .taken, entries-count (c .before .before .before .before .loop .inv .0), c .before .before .before .before .before .before .before .before .before .before .good .1 .1 .1 .0) }
+    let loop = c .before .before .before .before .loop in
+    let loop-test = c .before .before .before .loop-test in
+    let start = c .before .before .before .before .before .before .before .before .before .before in
+    let P = loop .inv .1 in
+    record { fits = omega (arith, P .room, loop-test .taken, entries-count (loop .inv .0), start .good .1 .1 .1 .0) }
 
 put-one-requires : tie.Need-put-one-requires Inv-loop μ-loop
 put-one-requires c κs =
-    let P = c .before .before .before .before .loop .inv .1 in
-    (omega (arith, c .before .before .before .loop-test .taken, P .room, putting-length P, entries-count (c .before .before .before .before .loop .inv .0)), c .before .number-of .ensures .1)
+    let loop = c .before .before .before .before .loop in
+    let loop-test = c .before .before .before .loop-test in
+    let P = loop .inv .1 in
+    (omega (arith, loop-test .taken, P .room, putting-length P, entries-count (loop .inv .0)), c .before .number-of .ensures .1)
 
 loop-again : tie.Need-loop-again Inv-loop μ-loop
 loop-again c =
-    let I = c .before .before .before .before .before .before .before .loop .inv in
-    let l = c .before .before .before .before .before .before .loop-test .taken in (
+    let loop = c .before .before .before .before .before .before .before .loop in
+    let loop-test = c .before .before .before .before .before .before .loop-test in
+    let word-at = c .before .before .before .before .before .word-at in
+    let number-of = c .before .before .before .before .number-of in
+    let I = loop .inv in
+    let l = loop-test .taken in (
       I .0,
-      putting-on (I .1) (omega (arith, l, entries-count (I .0))) (entry-is (I .0) l (c .before .before .before .before .before .word-at .ensures .0) (c .before .before .before .before .number-of .ensures .0))
+      putting-on (I .1) (omega (arith, l, entries-count (I .0))) (entry-is (I .0) l (word-at .ensures .0) (number-of .ensures .0))
           (c .before .before .put-one .ensures),
     )
 

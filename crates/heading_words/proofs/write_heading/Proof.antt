@@ -44,12 +44,14 @@ put-three-requires c κs =
 returns-2 : tie.Need-returns-2
 unfolding headingWords
 returns-2 c =
+    let start = c .before .before .before .before .before .before .before .before .before .before in
+    let if1 = c .before .before .before .before .if1 in
     let z = c .before .before .before .before .before .before .before .before .before .before .args in
     let row = z .row .now in
     let es = entriesOf (graphIn row) (blocksIn row) (z .b) (z .marks .now) (z .bs .now) in
     c .before .before .put-three .ensures
-    ∙ ap (λ (b : ℕ). putWords (z .out .now) 0 (z .copies ∷ z .edges ∷ b ∷ [])) (c .before .before .before .before .before .before .before .before .before .before .pre .1 .1 .1 .0 .1)
-    ∙ sym (ap (λ (v : Bool). putWords (z .out .now) 0 (headingWords v (z .bs .now) es (z .copies) (z .edges))) (c .before .before .before .before .if1 .left))
+    ∙ ap (λ (b : ℕ). putWords (z .out .now) 0 (z .copies ∷ z .edges ∷ b ∷ [])) (start .pre .1 .1 .1 .0 .1)
+    ∙ sym (ap (λ (v : Bool). putWords (z .out .now) 0 (headingWords v (z .bs .now) es (z .copies) (z .edges))) (if1 .left))
 
 pub write-heading-spec : {M : Type 1} → statement M
 write-heading-spec =

@@ -24,16 +24,20 @@ heading-size-requires : tie.Need-heading-size-requires
 heading-size-requires c κs = c .before .before .before .before .before .before .pre .1 .0 .0 .count .1
 
 add-if2 : tie.Need-add-if2
-add-if2 c = omega (arith, c .heading-size .ensures, size-most (c .before .before .before .before .before .before .before .args .second) (length (c .before .before .before .before .before .before .before .args .bs .now)) (c .before .before .before .before .before .before .before .pre .1 .0 .0 .count .1), c .before .if1 .left)
+add-if2 c =
+    let start = c .before .before .before .before .before .before .before in
+    let most = size-most (start .args .second) (length (start .args .bs .now)) (start .pre .1 .0 .0 .count .1) in
+    omega (arith, c .heading-size .ensures, most, c .before .if1 .left)
 
 add-if2-2 : tie.Need-add-if2-2
 add-if2-2 c =
+    let start = c .before .before .before .before .before .before .before in
     omega (
       arith,
       c .heading-size .ensures,
-      size-most (c .before .before .before .before .before .before .before .args .second) (length (c .before .before .before .before .before .before .before .args .bs .now)) (c .before .before .before .before .before .before .before .pre .1 .0 .0 .count .1),
+      size-most (start .args .second) (length (start .args .bs .now)) (start .pre .1 .0 .0 .count .1),
       c .before .if1 .left,
-      c .before .before .before .before .before .before .before .pre .1 .1 .1 .1 .1 .1,
+      start .pre .1 .1 .1 .1 .1 .1,
     )
 
 returns-2 : tie.Need-returns-2
@@ -60,11 +64,14 @@ write-sheet-requires c κs =
 returns-3 : tie.Need-returns-3
 unfolding outputAt
 returns-3 c =
+    let if1 = c .before .before .before .before .before .before .if1 in
+    let heading-size = c .before .before .before .before .before .heading-size in
+    let if2 = c .before .before .before .before .if2 in
     let z = c .before .before .before .before .before .before .before .before .before .before .before .before in
     let T = taskIn (z .args .row .now) (z .args .bs .now) (z .args .b) in
     let q = z .pre .1 .1 .1 .1 in (
-      long-row (z .args .second) T (length (z .args .out .now)) (omega (arith, q .0, c .before .before .before .before .before .before .if1 .left)) (omega (arith, q .1))
-          (omega (arith, q .0, q .1, sheet-length (z .args .second) T, c .before .before .before .before .before .heading-size .ensures, c .before .before .before .before .if2 .left)),
+      long-row (z .args .second) T (length (z .args .out .now)) (omega (arith, q .0, if1 .left)) (omega (arith, q .1))
+          (omega (arith, q .0, q .1, sheet-length (z .args .second) T, heading-size .ensures, if2 .left)),
       c .before .before .write-sheet .ensures,
     )
 

@@ -31,6 +31,8 @@ write-heading-requires c κs =
 
 write-records-requires : tie.Need-write-records-requires
 write-records-requires c κs =
+    let write-heading = c .before .before .before .write-heading in
+    let heading-size = c .before .before .before .before .before .heading-size in
     let z = c .before .before .before .before .before .before .before .before .before .before .before in
     let p = z .pre in
     let k = p .1 .0 in
@@ -38,10 +40,14 @@ write-records-requires c κs =
     let q = p .1 .1 .1 in
     let T = taskIn (z .args .row .now) (z .args .bs .now) (z .args .b) in
     let M = served (p .0) (z .args .b) (k .0) (k .1) (k .2) (m .0) (m .1) in
-    (p .0, (M, rw (m .1) (q .0, (q .1 .0, (omega (arith, q .1 .1 .0), omega (arith, c .before .before .before .write-heading .kept .1 .1 .1 .0, records-room (z .args .second) T, q .1 .1 .1, c .before .before .before .before .before .heading-size .ensures))))))
+    let long = write-heading .kept .1 .1 .1 .0 in
+    let room = records-room (z .args .second) T in
+    (p .0, (M, rw (m .1) (q .0, (q .1 .0, (omega (arith, q .1 .1 .0), omega (arith, long, room, q .1 .1 .1, heading-size .ensures))))))
 
 returns : tie.Need-returns
 returns c =
+    let heading-size = c .before .before .before .before .before .before .before .before .heading-size in
+    let write-heading = c .before .before .before .before .before .before .write-heading in
     let z = c .before .before .before .before .before .before .before .before .before .before .before .before .before .before in
     let q = z .pre .1 .1 .1 .1 in
     let m = z .pre .1 .1 .0 .1 in
@@ -49,10 +55,10 @@ returns c =
     let row = a .row .now in
     let bs = a .bs .now in
     c .before .before .write-records .ensures
-    ∙ ap₂ (λ (o : List ℕ) (cs : List Copy). putWords o (c .before .before .before .before .before .before .before .before .heading-size .result) (recordWords (rowsOf (graphIn row) cs)))
-    (c .before .before .before .before .before .before .write-heading .ensures
+    ∙ ap₂ (λ (o : List ℕ) (cs : List Copy). putWords o (heading-size .result) (recordWords (rowsOf (graphIn row) cs)))
+    (write-heading .ensures
     ∙ ap (λ (es : List ℕ). putWords (a .out .now) 0 (headingWords (a .second) bs es (a .copies) (a .edges))) (entries-are row bs (a .b) (a .marks .now) m)) m
-    ∙ written (a .second) (taskIn row bs (a .b)) (a .out .now) (q .0 .0) (q .1 .0 .0) (c .before .before .before .before .before .before .before .before .heading-size .ensures)
+    ∙ written (a .second) (taskIn row bs (a .b)) (a .out .now) (q .0 .0) (q .1 .0 .0) (heading-size .ensures)
 
 pub write-sheet-spec : {M : Type 1} → statement M
 write-sheet-spec =

@@ -23,25 +23,29 @@ flush-requires c κs = flush-room (c .before .before .before .before .pre)
 returns-2 : tie.Need-returns-2
 unfolding ended flush
 returns-2 c =
+    let flush′ = c .before .before .before .before .flush in
+    let if1 = c .before .before .before .before .before .before .if1 in
     let z = c .before .before .before .before .before .before .before .before .before in
     let A = z .pre in
-    let put = c .before .before .before .before .flush in (
+    let put = flush′ in (
       able-fault (able-with A (put .kept .0) _ wordLimit (flush-inside A (put .ensures)) (λ l. absurd (omega arith)) _ _ (A .small-line) (A .small-column))
           _ _ (omega arith) (c .fault-at .ensures),
-      λ old r H. let K = ends H (c .before .before .before .before .before .before .if1 .left) (flush r .words) (flushed H (put .ensures)) wordLimit between mode-between in
+      λ old r H. let K = ends H (if1 .left) (flush r .words) (flushed H (put .ensures)) wordLimit between mode-between in
           holds-as (faults K _ _ nothing (what-nothing _) (λ e. omega arith) (c .fault-at .ensures))
-          (with-none r (worded (flush r)) (held-none H (c .before .before .before .before .before .before .if1 .left)) ∙ worded-nothing (flush r) (omega (arith, held-size K, c .before .if2 .taken))),
+          (with-none r (worded (flush r)) (held-none H (if1 .left)) ∙ worded-nothing (flush r) (omega (arith, held-size K, c .before .if2 .taken))),
     )
 
 returns-3 : tie.Need-returns-3
 unfolding ended flush
 returns-3 c =
+    let flush′ = c .before .before .before .flush in
+    let if1 = c .before .before .before .before .before .if1 in
     let z = c .before .before .before .before .before .before .before .before in
     let A = z .pre in
-    let put = c .before .before .before .flush in (
+    let put = flush′ in (
       able-with A (put .kept .0) _ wordLimit (flush-inside A (put .ensures)) (λ l. absurd (omega arith)) _ _ (A .small-line) (A .small-column),
-      λ old r H. let K = ends H (c .before .before .before .before .before .if1 .left) (flush r .words) (flushed H (put .ensures)) wordLimit between mode-between in
-          holds-as K (with-none r (worded (flush r)) (held-none H (c .before .before .before .before .before .if1 .left)) ∙ worded-words (flush r) (omega (arith, held-size K, c .if2 .left))),
+      λ old r H. let K = ends H (if1 .left) (flush r .words) (flushed H (put .ensures)) wordLimit between mode-between in
+          holds-as K (with-none r (worded (flush r)) (held-none H (if1 .left)) ∙ worded-words (flush r) (omega (arith, held-size K, c .if2 .left))),
     )
 
 pub end-text-spec : {M : Type 1} → statement M

@@ -11,15 +11,20 @@ end-text-requires : tie.Need-end-text-requires
 end-text-requires c κs = c .before .before .before .pre .0
 
 say-requires : tie.Need-say-requires
-say-requires c κs = let A = c .before .before .before .before .before .end-text .ensures .0 in (A .small-line, A .small-column, A .small-found, c .before .before .before .before .before .before .before .before .before .pre .1)
+say-requires c κs =
+    let end-text = c .before .before .before .before .before .end-text in
+    let start = c .before .before .before .before .before .before .before .before .before in
+    let A = end-text .ensures .0 in (A .small-line, A .small-column, A .small-found, start .pre .1)
 
 returns : tie.Need-returns
 unfolding readWords
 returns c =
-    let E = c .before .before .before .before .before .before .before .before .end-text .ensures in
+    let end-text = c .before .before .before .before .before .before .before .before .end-text in
+    let if1 = c .before .before .before .before .if1 in
+    let E = end-text .ensures in
     let say = c .before .before .say .ensures in (
       (omega arith, say .1),
-      λ old xs H. (told-bytes xs (E .1 old _ H) (c .before .before .before .before .if1 .taken), told-said xs (E .1 old _ H) (c .before .before .before .before .if1 .taken) (say .0)),
+      λ old xs H. (told-bytes xs (E .1 old _ H) (if1 .taken), told-said xs (E .1 old _ H) (if1 .taken) (say .0)),
     )
 
 returns-2 : tie.Need-returns-2

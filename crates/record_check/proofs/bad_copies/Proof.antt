@@ -1,18 +1,21 @@
 -- One pass over the copies: each is tested behind the one before it, its chain is followed, and it is counted where it is of block 2.
 -- Rests on Records.
 use borrow.Author.Needs.{needs}
-use Prim.Native.Nat.{_+_, _-_}
+use mathlib.Core.Path.{_≡_, ap, _∙_}
+use mathlib.Core.List.{List}
+use Prim.Native.Nat.{ℕ, _+_, _-_, _*_}
 use native.Mathlib.Omega.{arith}
-use Rattle.formats.specs.BoundedSheet.{headingOf}
+use Rattle.formats.specs.Words.{word}
+use Rattle.formats.specs.BoundedSheet.{Heading, headingOf, blockAt, lowAt, firstAt}
 use Rattle.record_check.proofs.Records.{Checking, begin, bad-copy, bad-chain, goes-on, bad-twos, bad-end}
 use Rattle.record_check.proofs.bad_copies.Statement.{statement}
 use Rattle.record_check.proofs.bad_copies.Tie as tie
 
 abbrev Inv-loop : tie.InvT-loop
-Inv-loop s at c f b base w₀ l₀ twos₀ e₀ i₀ w l twos e i = Checking (headingOf at c f b) s i w l twos e
+Inv-loop s at c f b base w₀ l₀ twos₀ e₀ i₀ p₀ w l twos e i p = Checking (headingOf at c f b) s i w l twos e × (p + 3 ≡ at + 3 * i)
 
 abbrev μ-loop : tie.MeasureT-loop
-μ-loop s at c f b base w₀ l₀ twos₀ e₀ i₀ w l twos e i = c + 1 - i
+μ-loop s at c f b base w₀ l₀ twos₀ e₀ i₀ p₀ w l twos e i p = c + 1 - i
 
 mul-base : tie.Need-mul-base Inv-loop μ-loop
 mul-base c = omega (arith, c .before .pre .size)
@@ -21,62 +24,101 @@ add-base : tie.Need-add-base Inv-loop μ-loop
 add-base c = omega (arith, c .before .pre .size)
 
 loop-holds : tie.Need-loop-holds Inv-loop μ-loop
-loop-holds c = begin _ _
+loop-holds c = (begin _ _, omega arith)
 
-field-requires : tie.Need-field-requires Inv-loop μ-loop
-field-requires c κs =
+word-at-requires : tie.Need-word-at-requires Inv-loop μ-loop
+word-at-requires c κs =
     let l = c .before in
-    (l .loop .inv .search .least, omega arith, omega (arith, l .before .before .pre .size))
+    omega (arith, l .loop .inv .1, c .loop-test .taken, l .before .before .pre .size)
 
-field-requires-2 : tie.Need-field-requires-2 Inv-loop μ-loop
-field-requires-2 c κs =
+add-word-at : tie.Need-add-word-at Inv-loop μ-loop
+add-word-at c = let l = c .before .before in omega (arith, l .loop .inv .1, c .before .loop-test .taken, l .before .before .pre .size)
+
+word-at-requires-2 : tie.Need-word-at-requires-2 Inv-loop μ-loop
+word-at-requires-2 c κs =
     let l = c .before .before in
-    (l .loop .inv .search .least, omega arith, omega (arith, l .before .before .pre .size))
+    omega (arith, l .loop .inv .1, c .before .loop-test .taken, l .before .before .pre .size)
 
-field-requires-3 : tie.Need-field-requires-3 Inv-loop μ-loop
-field-requires-3 c κs =
+add-word-at-2 : tie.Need-add-word-at-2 Inv-loop μ-loop
+add-word-at-2 c =
     let l = c .before .before .before in
-    (l .loop .inv .search .least, omega arith, omega (arith, l .before .before .pre .size))
+    omega (arith, l .loop .inv .1, c .before .before .loop-test .taken, l .before .before .pre .size)
+
+word-at-requires-3 : tie.Need-word-at-requires-3 Inv-loop μ-loop
+word-at-requires-3 c κs =
+    let l = c .before .before .before in
+    omega (arith, l .loop .inv .1, c .before .before .loop-test .taken, l .before .before .pre .size)
+
+-- the three words of copy i
+module _ (z : tie.After-word-at3 Inv-loop μ-loop) where
+  abbrev looped : tie.At-loop Inv-loop μ-loop
+  looped = z .before .before .before .before
+
+  abbrev h : Heading
+  h = let a = looped .before .before .args in headingOf (a .at) (a .c) (a .f) (a .b)
+
+  abbrev s : List ℕ
+  s = looped .before .before .args .s .now
+
+  abbrev i : ℕ
+  i = looped .loop .i
+
+  block : z .before .before .word-at .result ≡ blockAt h s i
+  block = z .before .before .word-at .ensures .0 ∙ ap (word s) (omega (arith, looped .loop .inv))
+
+  low : z .before .word-at2 .result ≡ lowAt h s i
+  low = z .before .word-at2 .ensures .0 ∙ ap (word s) (omega (arith, looped .loop .inv))
+
+  first : z .word-at3 .result ≡ firstAt h s i
+  first = z .word-at3 .ensures .0 ∙ ap (word s) (omega (arith, looped .loop .inv))
 
 returns : tie.Need-returns Inv-loop μ-loop
 returns c =
     let z = c .before .before in
     let t = z .before .before .before in
-    bad-copy _ _ (t .before .loop .inv) (t .loop-test .taken) (z .before .before .field .ensures .0) (z .before .field2 .ensures .0)
-    (z .field3 .ensures .0) (c .before .is-bad-copy .ensures) (c .if1 .taken)
+    bad-copy (h z) (s z) (t .before .loop .inv .0) (t .loop-test .taken) (block z) (low z) (first z) (c .before .is-bad-copy .ensures)
+    (c .if1 .taken)
 
 chain-end-requires : tie.Need-chain-end-requires Inv-loop μ-loop
 chain-end-requires c κs =
     let l = c .before .before .before .before .before .before in
     let F = l .before .before .pre in
-    let E = l .loop .inv .edges in
+    let E = l .loop .inv .0 .edges in
     (omega (arith, F .size), (E .first, E .last, F .edges .1))
 
 returns-2 : tie.Need-returns-2 Inv-loop μ-loop
 returns-2 c =
     let z = c .before .before .before .before in
     let t = z .before .before .before in
-    bad-chain _ _ (t .before .loop .inv) (t .loop-test .taken) (z .before .before .field .ensures .0) (z .before .field2 .ensures .0)
-    (z .field3 .ensures .0) (c .before .chain-end .ensures) (c .if2 .taken)
+    bad-chain (h z) (s z) (t .before .loop .inv .0) (t .loop-test .taken) (block z) (low z) (first z) (c .before .chain-end .ensures)
+    (c .if2 .taken)
 
 tally-requires : tie.Need-tally-requires Inv-loop μ-loop
 tally-requires c κs =
+    let loop-test = c .before .before .before .before .before .before .before .loop-test in
     let l = c .before .before .before .before .before .before .before .before in
-    omega (arith, l .loop .inv .twos .few, c .before .before .before .before .before .before .before .loop-test .taken, l .before .before .pre .copies)
+    omega (arith, l .loop .inv .0 .twos .few, loop-test .taken, l .before .before .pre .copies)
+
+add-p : tie.Need-add-p Inv-loop μ-loop
+add-p c =
+    let loop-test = c .before .before .before .before .before .before .before .before .loop-test in
+    let l = c .before .before .before .before .before .before .before .before .before in
+    omega (arith, l .loop .inv .1, loop-test .taken, l .before .before .pre .copies, l .before .before .pre .size)
 
 loop-again : tie.Need-loop-again Inv-loop μ-loop
 loop-again c =
     let y = c .before .before in
     let z = y .before .before .before in
-    let t = z .before .before .before in
-    goes-on _ _ (t .before .loop .inv) (t .loop-test .taken) (z .before .before .field .ensures .0) (z .before .field2 .ensures .0)
-    (z .field3 .ensures .0) (y .chain-end .ensures) (y .before .before .is-bad-copy .ensures) (y .before .if1 .left) (c .before .if2 .left)
-    (c .tally .ensures)
+    let t = z .before .before .before in (
+      goes-on (h z) (s z) (t .before .loop .inv .0) (t .loop-test .taken) (block z) (low z) (first z) (y .chain-end .ensures)
+          (y .before .before .is-bad-copy .ensures) (y .before .if1 .left) (c .before .if2 .left) (c .tally .ensures),
+      omega (arith, t .before .loop .inv .1),
+    )
 
 returns-3 : tie.Need-returns-3 Inv-loop μ-loop
 returns-3 c =
     let l = c .before .before in
-    bad-twos _ _ (l .loop .inv) (c .before .loop-test .left) (omega (arith, l .before .before .pre .copies)) (c .if3 .taken)
+    bad-twos _ _ (l .loop .inv .0) (c .before .loop-test .left) (omega (arith, l .before .before .pre .copies)) (c .if3 .taken)
 
 add-result : tie.Need-add-result Inv-loop μ-loop
 add-result c = omega (arith, c .before .before .before .before .pre .edges)
@@ -84,10 +126,11 @@ add-result c = omega (arith, c .before .before .before .before .pre .edges)
 returns-4 : tie.Need-returns-4 Inv-loop μ-loop
 returns-4 c =
     let l = c .before .before in
-    bad-end _ _ (l .loop .inv) (c .before .loop-test .left) (omega (arith, l .before .before .pre .copies)) (c .if3 .left)
+    bad-end _ _ (l .loop .inv .0) (c .before .loop-test .left) (omega (arith, l .before .before .pre .copies)) (c .if3 .left)
 
 pub bad-copies-spec : {M : Type 1} → statement M
 bad-copies-spec =
     tie.close
-    (tie.spec Inv-loop μ-loop mul-base add-base loop-holds field-requires field-requires-2 field-requires-3 (λ c κs. search needs)
-    returns chain-end-requires returns-2 tally-requires (λ c. search needs) (λ c. search needs) loop-again returns-3 add-result returns-4)
+    (tie.spec Inv-loop μ-loop mul-base add-base loop-holds word-at-requires add-word-at word-at-requires-2 add-word-at-2 word-at-requires-3
+    (λ c κs. search needs) returns chain-end-requires returns-2 tally-requires (λ c. search needs) add-p (λ c. search needs) loop-again
+    returns-3 add-result returns-4)

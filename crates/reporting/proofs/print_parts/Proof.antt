@@ -34,7 +34,10 @@ loop-less c =
     omega (arith, p .ensures .1 .0 .0, ap (λ (t : Tally). t .place) (p .ensures .1 .0 .1), t .before .loop .inv .1 .next (t .loop-test .taken))
 
 loop-again : tie.Need-loop-again Inv-loop μ-loop
-loop-again c = let p = c .before .before .before .before .before .next-part in (p .kept .1 .1 .0 ∙ c .before .before .before .before .before .before .before .before .loop .inv .0, p .ensures .0 .0)
+loop-again c =
+    let next-part = c .before .before .before .before .before .next-part in
+    let loop = c .before .before .before .before .before .before .before .before .loop in
+    let p = next-part in (p .kept .1 .1 .0 ∙ loop .inv .0, p .ensures .0 .0)
 
 pub print-parts-spec : {M : Type 1} → statement M
 print-parts-spec =

@@ -26,9 +26,10 @@ feed-piece-requires c κs = c .before .before .before .before .before .before .b
 
 loop-again : tie.Need-loop-again Inv-loop μ-loop
 loop-again c =
+    let read-piece = c .before .before .before .before .before .before .before .before .before .before .before .before .read-piece in
     let f = c .before .before .before .before .before .before .feed-piece in
     let l = c .before .before .before .before .before .before .before .before .before .before .before .before .before .before .before .before .before .loop in
-    (f .kept .1 .1 .0 ∙ l .inv .0, f .kept .1 .1 .1 .0 ∙ l .inv .1, omega (arith, l .inv .2, c .before .before .before .before .before .before .before .before .before .before .before .before .read-piece .kept), f .ensures)
+    (f .kept .1 .1 .0 ∙ l .inv .0, f .kept .1 .1 .1 .0 ∙ l .inv .1, omega (arith, l .inv .2, read-piece .kept), f .ensures)
 
 same-length : tie.Need-same-length Inv-loop μ-loop
 same-length c = c .before .loop .inv .0
@@ -58,10 +59,16 @@ returns-3 : tie.Need-returns-3 Inv-loop μ-loop
 returns-3 c = c .before .before .before .before .before .before .before .loop .inv .3
 
 same-length-7 : tie.Need-same-length-7 Inv-loop μ-loop
-same-length-7 c = c .before .before .before .before .before .before .feed-piece .kept .1 .1 .0 ∙ c .before .before .before .before .before .before .before .before .before .before .before .before .before .before .before .before .before .loop .inv .0
+same-length-7 c =
+    let feed-piece = c .before .before .before .before .before .before .feed-piece in
+    let loop = c .before .before .before .before .before .before .before .before .before .before .before .before .before .before .before .before .before .loop in
+    feed-piece .kept .1 .1 .0 ∙ loop .inv .0
 
 same-length-8 : tie.Need-same-length-8 Inv-loop μ-loop
-same-length-8 c = c .before .before .before .before .before .before .feed-piece .kept .1 .1 .1 .0 ∙ c .before .before .before .before .before .before .before .before .before .before .before .before .before .before .before .before .before .loop .inv .1
+same-length-8 c =
+    let feed-piece = c .before .before .before .before .before .before .feed-piece in
+    let loop = c .before .before .before .before .before .before .before .before .before .before .before .before .before .before .before .before .before .loop in
+    feed-piece .kept .1 .1 .1 .0 ∙ loop .inv .1
 
 returns-4 : tie.Need-returns-4 Inv-loop μ-loop
 returns-4 c = c .before .before .before .before .before .before .feed-piece .ensures

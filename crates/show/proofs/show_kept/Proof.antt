@@ -17,9 +17,11 @@ returns c =
 
 returns-2 : tie.Need-returns-2
 returns-2 c =
+    let if1 = c .before .before .before .before .before .if1 in
+    let if2 = c .before .before .before .before .if2 in
     let z = c .before .before .before .before .before .before .before .before in
     let e = c .before .before .write-refusal2 .ensures in
-    (e .1, λ xs H. wrote-as (e .0) (shown-long H (z .pre .0 .0) (c .before .before .before .before .before .if1 .left) (c .before .before .before .before .if2 .taken)))
+    (e .1, λ xs H. wrote-as (e .0) (shown-long H (z .pre .0 .0) (if1 .left) (if2 .taken)))
 
 slice-aggregate-show-words : tie.Need-slice-aggregate-show-words
 slice-aggregate-show-words c = let z = c .before .before .before .before .before in sym (length-take-le (z .args .s .count) (z .args .row .now) (z .pre .0 .1))
@@ -32,9 +34,11 @@ show-words-requires c κs =
 
 returns-3 : tie.Need-returns-3
 returns-3 c =
+    let if1 = c .before .before .before .before .before .before .if1 in
+    let if2 = c .before .before .before .before .before .if2 in
     let z = c .before .before .before .before .before .before .before .before .before in
     let e = c .before .before .show-words .ensures in
-    (e .1, λ xs H. wrote-as (e .0) (shown-words H (z .pre .0 .0) (c .before .before .before .before .before .before .if1 .left) (c .before .before .before .before .before .if2 .left)))
+    (e .1, λ xs H. wrote-as (e .0) (shown-words H (z .pre .0 .0) (if1 .left) (if2 .left)))
 
 pub show-kept-spec : {M : Type 1} → statement M
 show-kept-spec =

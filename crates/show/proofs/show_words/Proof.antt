@@ -37,8 +37,9 @@ slice-aggregate-decode c = sym (length-take-le _ _ (fit (c .before .before)))
 
 decode-requires : tie.Need-decode-requires
 decode-requires c κs =
+    let start = c .before .before .before .before .before .before .before in
     let u = c .before .before .before in
-    omega (arith, c .before .before .before .before .before .before .before .pre .1, few u, length-take-le (u .words-of .result) (u .words-of .last .1 .0) (fit u))
+    omega (arith, start .pre .1, few u, length-take-le (u .words-of .result) (u .words-of .last .1 .0) (fit u))
 
 returns : tie.Need-returns
 returns c =

@@ -31,20 +31,25 @@ feed-byte-requires : tie.Need-feed-byte-requires Inv-loop μ-loop
 feed-byte-requires c κs = let l = c .before .before .before .before .before .loop in (l .inv .4, l .inv .5)
 
 add-i : tie.Need-add-i Inv-loop μ-loop
-add-i c = record { fits = omega (arith, c .before .before .before .before .before .before .before .before .before .before .before .before .loop-test .taken, c .before .before .before .before .before .before .before .before .before .before .before .before .before .before .before .before .before .before .good .1 .0) }
+add-i c =
+    let loop-test = c .before .before .before .before .before .before .before .before .before .before .before .before .loop-test in
+    let start = c .before .before .before .before .before .before .before .before .before .before .before .before .before .before .before .before .before .before in
+    record { fits = omega (arith, loop-test .taken, start .good .1 .0) }
 
 loop-again : tie.Need-loop-again Inv-loop μ-loop
 loop-again c =
+    let loop-test = c .before .before .before .before .before .before .before .before .before .before .before .before .loop-test in
+    let start = c .before .before .before .before .before .before .before .before .before .before .before .before .before .before .before .before .before .before in
     let f = c .before .before .before .before .before .before .before .feed-byte in
     let l = c .before .before .before .before .before .before .before .before .before .before .before .before .before .loop in
-    let t = c .before .before .before .before .before .before .before .before .before .before .before .before .loop-test .taken in (
+    let t = loop-test .taken in (
       omega (arith, t),
       f .kept .1 .1 .0 ∙ l .inv .1,
       f .kept .1 .1 .1 .0 ∙ l .inv .2,
       f .kept .1 .1 .1 .1 .0 ∙ l .inv .3,
       f .ensures .0 .0,
       f .ensures .0 .1,
-      λ xs said H. handing-next xs (c .before .before .before .before .before .before .before .before .before .before .before .before .before .before .before .before .before .before .args .bytes .now) (l .i) t (l .inv .6 xs said H) (f .ensures .1),
+      λ xs said H. handing-next xs (start .args .bytes .now) (l .i) t (l .inv .6 xs said H) (f .ensures .1),
     )
 
 same-length : tie.Need-same-length Inv-loop μ-loop

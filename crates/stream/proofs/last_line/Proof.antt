@@ -11,7 +11,10 @@ cut-line-requires : tie.Need-cut-line-requires
 cut-line-requires c κs = let z = c .before .before .before .before .before in ((z .pre .0 .0, z .pre .0 .1 (c .before .before .if1 .taken)), z .pre .1)
 
 returns : tie.Need-returns
-returns c = let n = c .before .before .before .before .cut-line in (n .ensures .0, n .ensures .1 (c .before .before .before .before .before .before .before .if1 .taken))
+returns c =
+    let cut-line = c .before .before .before .before .cut-line in
+    let if1 = c .before .before .before .before .before .before .before .if1 in
+    let n = cut-line in (n .ensures .0, n .ensures .1 (if1 .taken))
 
 returns-2 : tie.Need-returns-2
 returns-2 c = let z = c .before .before .before .before in ((z .pre .0 .0, omega arith), λ xs said row H. listed-none H (full-figures H (c .before .if1 .left)))

@@ -25,11 +25,17 @@ loop-holds c = (omega arith, omega arith, refl, c .before .before .before .pre .
 
 list-block-requires : tie.Need-list-block-requires Inv-loop μ-loop
 list-block-requires c κs =
+    let start = c .before .before .before .before .before .before in
+    let blocks-in = c .before .before .before .blocks-in in
     let l = c .before .before .loop .inv in
-    (c .before .before .before .before .before .before .pre .0, ((l .0, omega (arith, c .before .before .before .blocks-in .ensures .0, c .before .loop-test .taken)), l .3))
+    (start .pre .0, ((l .0, omega (arith, blocks-in .ensures .0, c .before .loop-test .taken)), l .3))
 
 add-v : tie.Need-add-v Inv-loop μ-loop
-add-v c = omega (arith, c .before .before .before .before .before .before .blocks-in .ensures, c .before .before .before .before .loop-test .taken, c .before .before .before .before .before .before .before .before .before .pre .0 .blocks)
+add-v c =
+    let blocks-in = c .before .before .before .before .before .before .blocks-in in
+    let loop-test = c .before .before .before .before .loop-test in
+    let start = c .before .before .before .before .before .before .before .before .before in
+    omega (arith, blocks-in .ensures, loop-test .taken, start .pre .0 .blocks)
 
 loop-again : tie.Need-loop-again Inv-loop μ-loop
 loop-again c =

@@ -8,7 +8,9 @@ use Rattle.tables.proofs.eight_clear.Statement.{statement}
 use Rattle.tables.proofs.eight_clear.Tie as tie
 
 returns : tie.Need-returns
-returns c e = clear-eight (c .before .before .before .before .before .before .before .before .args .marks .now) (c .before .before .before .before .before .before .before .before .args .j) (eqb-true _ 0 e)
+returns c e =
+    let start = c .before .before .before .before .before .before .before .before in
+    clear-eight (start .args .marks .now) (start .args .j) (eqb-true _ 0 e)
 
 pub eight-clear-spec : {M : Type 1} → statement M
 eight-clear-spec =

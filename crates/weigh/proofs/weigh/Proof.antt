@@ -16,13 +16,18 @@ begin-requires c κs = let p = c .before .before .before .before .before .before
 
 weigh-costs-requires : tie.Need-weigh-costs-requires
 weigh-costs-requires c κs =
-    let b = c .before .before .before .before .before .before .before .begin .ensures in
-    (c .before .before .before .before .before .before .before .before .before .before .before .before .before .before .before .before .before .before .pre .0, record { listed = c .before .before .before .before .before .before .before .before .before .before .before .before .list-all .ensures; fair = b .1 .0; mirror = b .1 .1 })
+    let begin = c .before .before .before .before .before .before .before .begin in
+    let start = c .before .before .before .before .before .before .before .before .before .before .before .before .before .before .before .before .before .before in
+    let list-all = c .before .before .before .before .before .before .before .before .before .before .before .before .list-all in
+    let b = begin .ensures in
+    (start .pre .0, record { listed = list-all .ensures; fair = b .1 .0; mirror = b .1 .1 })
 
 returns : tie.Need-returns
 returns c =
-    let w = c .before .before .before .before .weigh-costs .ensures in
-    filling-filled (w .0 .filling _ (c .before .before .before .before .before .before .before .before .before .before .before .before .begin .ensures .0)) (all-right (w .0 .fair) (w .1))
+    let weigh-costs = c .before .before .before .before .weigh-costs in
+    let begin = c .before .before .before .before .before .before .before .before .before .before .before .before .begin in
+    let w = weigh-costs .ensures in
+    filling-filled (w .0 .filling _ (begin .ensures .0)) (all-right (w .0 .fair) (w .1))
 
 pub weigh-spec : {M : Type 1} → statement M
 weigh-spec =

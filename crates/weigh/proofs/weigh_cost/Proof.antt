@@ -41,7 +41,11 @@ settle-requires c κs =
     )
 
 add-v : tie.Need-add-v Inv-loop μ-loop
-add-v c = omega (arith, c .before .before .before .before .before .before .before .before .before .blocks-in .ensures, c .before .before .before .before .before .before .before .loop-test .taken, c .before .before .before .before .before .before .before .before .before .before .before .before .before .before .pre .0 .blocks)
+add-v c =
+    let blocks-in = c .before .before .before .before .before .before .before .before .before .blocks-in in
+    let loop-test = c .before .before .before .before .before .before .before .loop-test in
+    let start′ = c .before .before .before .before .before .before .before .before .before .before .before .before .before .before in
+    omega (arith, blocks-in .ensures, loop-test .taken, start′ .pre .0 .blocks)
 
 loop-again : tie.Need-loop-again Inv-loop μ-loop
 loop-again c =
@@ -67,10 +71,14 @@ settle-requires-2 c κs =
 
 returns : tie.Need-returns Inv-loop μ-loop
 returns c =
-    let l = c .before .before .before .before .before .before .before .before .loop .inv in
-    let e = c .before .before .before .before .settle2 .ensures in
-    let n = c .before .before .before .before .before .before .before .before .before .blocks-in .ensures .0 in
-    (wider-then (l .1 .wider) (e .0), (e .1 .0, settled-next (omega (arith, n, c .before .before .before .before .before .before .before .loop-test .left)) (l .1 .settled) (e .0) (e .1 .1)))
+    let loop = c .before .before .before .before .before .before .before .before .loop in
+    let settle2 = c .before .before .before .before .settle2 in
+    let blocks-in = c .before .before .before .before .before .before .before .before .before .blocks-in in
+    let loop-test = c .before .before .before .before .before .before .before .loop-test in
+    let l = loop .inv in
+    let e = settle2 .ensures in
+    let n = blocks-in .ensures .0 in
+    (wider-then (l .1 .wider) (e .0), (e .1 .0, settled-next (omega (arith, n, loop-test .left)) (l .1 .settled) (e .0) (e .1 .1)))
 
 pub weigh-cost-spec : {M : Type 1} → statement M
 weigh-cost-spec =

@@ -25,7 +25,10 @@ weigh-cost-requires c κs =
     (c .before .before .before .before .before .before .before .before .pre .0, (l .1 .kept, (c .before .before .loop-test .taken, l .1 .settled)))
 
 add-c : tie.Need-add-c Inv-loop μ-loop
-add-c c = omega (arith, c .before .before .before .before .before .before .before .loop-test .taken, c .before .before .before .before .before .before .before .before .loop .inv .1 .kept .fair .ready .budget)
+add-c c =
+    let loop-test = c .before .before .before .before .before .before .before .loop-test in
+    let loop = c .before .before .before .before .before .before .before .before .loop in
+    omega (arith, loop-test .taken, loop .inv .1 .kept .fair .ready .budget)
 
 loop-again : tie.Need-loop-again Inv-loop μ-loop
 loop-again c =

@@ -1,5 +1,5 @@
 -- Words as numbers behind spaces, one more at a time.
--- Rests on base Lists, digits Spaced.
+-- Rests on base Lists, specs Spaced.
 use mathlib.Core.Path.{_≡_, sym, ap, ap₂, _∙_}
 use mathlib.Core.List.{List, _++_}
 use Prim.Native.Nat.{ℕ, suc, _+_, _<_}

@@ -1,16 +1,16 @@
 -- The words are written one by one, each behind a space.
--- Rests on digits Due, Numbers.
+-- Rests on Due, Numbers.
 use mathlib.Core.Path.{refl, ap}
 use Prim.Native.Nat.{_+_, _-_, _≤_}
 use native.Mathlib.Omega.{arith}
 use borrow.Author.Needs.{needs}
 use lib.ListN.{length, drop, drop-of-length-le}
 use Rattle.base.specs.Lists.{each}
 use Rattle.digits.specs.Spaced.{spaced}
 use Rattle.digits.proofs.Due.{Due, due-start, due-as, due-room, due-step, due-end}
-use Rattle.heading_line.proofs.Numbers.{numbers-next}
-use Rattle.heading_line.proofs.put_numbers.Statement.{statement}
-use Rattle.heading_line.proofs.put_numbers.Tie as tie
+use Rattle.digits.proofs.Numbers.{numbers-next}
+use Rattle.digits.proofs.put_numbers.Statement.{statement}
+use Rattle.digits.proofs.put_numbers.Tie as tie
 
 abbrev Inv-loop : tie.InvT-loop
 Inv-loop ws text₀ at p₀ i₀ text p i = (i ≤ length ws) × Due text₀ at (each spaced ws) text p (each spaced (drop i ws))
