@@ -11,7 +11,7 @@ use lib.Dec.{eqb}
 use lib.ListN.{length}
 use Rattle.base.specs.Lists.{keep, member, distinct}
 use Rattle.base.proofs.Truth.{not-both, and-e}
-use Rattle.base.proofs.Lists.{keep-e, member-i, Distinct}
+use Rattle.base.proofs.Lists.{keep-e, keep-all, member-i, Distinct}
 
 -- the test of different numbers
 pub distinct-e : (xs : List ℕ) → distinct xs ≡ true → Distinct xs
@@ -29,12 +29,9 @@ module _ (k : ℕ) where
   unfolding other
   other-ne x p e = not-both (eq-eqb x k e) (not-true (eqb x k) p)
 
-  keep-all : (xs : List ℕ) → (List·Memᴰ k xs → ⊥) → keep other xs ≡ xs
-  unfolding keep other
-  keep-all [] h = refl
-  keep-all (x ∷ xs) h =
-      let p : other x ≡ true = ap not (ne-eqb x k (λ e. h (List·Memᴰ·head (sym e)))) in
-      rw (p, keep) (ap (λ (l : List ℕ). x ∷ l) (keep-all xs (λ m. h (List·Memᴰ·tail m))))
+  keep-others : (xs : List ℕ) → (List·Memᴰ k xs → ⊥) → keep other xs ≡ xs
+  unfolding other
+  keep-others xs h = keep-all other xs (λ x m. ap not (ne-eqb x k (λ e. h (Memᴰ·cast (sym e) m))))
 
   keep-distinct : (xs : List ℕ) → Distinct xs → Distinct (keep other xs)
   unfolding keep Distinct
@@ -54,7 +51,7 @@ module _ (k : ℕ) where
       go true e r = rw (e, keep) (omega arith)
       go false e r =
           let q : x ≡ k = eqb-true x k (not-false (eqb x k) e) in
-          rw (e, keep) (omega (arith, ap length (keep-all xs (λ m. d .0 (Memᴰ·cast q m)))))
+          rw (e, keep) (omega (arith, ap length (keep-others xs (λ m. d .0 (Memᴰ·cast q m)))))
 
 pub pigeonhole : (n : ℕ) (xs : List ℕ) → Distinct xs → ((y : ℕ) → List·Memᴰ y xs → (1 ≤ y) × (y ≤ n)) → length xs ≤ n
 pigeonhole zero [] d h = omega arith
