@@ -273,3 +273,6 @@ part-length a k xs l =
 -- a row of zeros has room
 pub zeros-room : (n m : ℕ) → m ≤ n → m ≤ length (replicate {A = ℕ} n 0)
 zeros-room n m l = subst (λ (x : ℕ). m ≤ x) (sym (length-replicate {A = ℕ} n 0)) l
+
+pub zeros-clear : (n : ℕ) → replicate {A = ℕ} n 0 ≡ replicate (length (replicate {A = ℕ} n 0)) 0
+zeros-clear n = ap (λ (k : ℕ). replicate k 0) (sym (length-replicate {A = ℕ} n 0))

@@ -1,9 +1,8 @@
 // Conditions 6 and 7 of a graph sheet that has its form: the targets of its edges, and its chains.
-// Rests on words, chains; the promises are equations with formats GraphSheet.
+// Rests on words, chain_check; the promises are equations with formats GraphSheet.
 ghost use mathlib.Core.Path.{_≡_};
 ghost use Rattle.formats.specs.GraphSheet.{headerOf, badTargets, badChains, Formed};
-use chains::mark_chain;
-use chains::misses;
+use chain_check::unsound_chains;
 use words::MOST_EDGES;
 use words::field;
 use words::is_outside;
@@ -32,13 +31,5 @@ pub fn bad_chains(s: &[u16], at: usize, n: usize, m: usize) -> bool
 {
     let base = at + 2 * n;
     let mut seen = [0u8; MOST_EDGES + 1];
-    let mut v = 1;
-    while v <= n {
-        let first = field(s, at, 2, v, 1);
-        if !mark_chain(s, &mut seen, base, m, first) {
-            return true;
-        }
-        v += 1;
-    }
-    misses(&seen, m)
+    unsound_chains(s, &mut seen, at, n, 1, base, m)
 }

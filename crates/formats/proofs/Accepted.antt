@@ -1,26 +1,26 @@
 -- What the conditions 1 to 8 give of a graph sheet that is answered 0, behind any header: one law for each fact.
--- Rests on base Truth, Lists, Orders and Pigeonhole, Chains.
+-- Rests on base Truth, Lists and Orders, Chains, SoundChains, Budgets.
 use mathlib.Core.Path.{_≡_, refl, sym, ap, subst, _∙_}
-use mathlib.Core.Bool.{Bool, true, false, not}
+use mathlib.Core.Bool.{Bool, true, false}
 use mathlib.Core.List.{List, [], map, List·Memᴰ, List·Memᴰ·not-nil, Memᴰ·of-map}
 use Prim.Native.Nat.{ℕ, suc, _+_, _≤_}
 use native.Mathlib.Omega.{arith}
 use borrow.Author.Tests.{ltb-true, ltb-false, eqb-true, not-false, lt-ltb, le-ltb}
 use lib.Dec.{ltb}
 use lib.ListN.{length, length-map}
-use Rattle.base.specs.Lists.{any, all, from, distinct}
+use Rattle.base.specs.Lists.{all, from}
 use Rattle.base.specs.Checks.{outside}
 use Rattle.base.proofs.Truth.{or-false, all-e, any-false}
-use Rattle.base.proofs.Lists.{from-i, each-i, each-e, Distinct, distinct-part}
+use Rattle.base.proofs.Lists.{from-i}
 use Rattle.base.proofs.Orders.{Numbered, unrefused, inside-of, not-outside}
-use Rattle.base.proofs.Pigeonhole.{distinct-e, pigeonhole}
-use Rattle.formats.specs.Words.{field, follow, Inside, unsound}
+use Rattle.formats.specs.Words.{field, follow, Inside}
 use Rattle.formats.specs.Limits.{leastWords, leastBlocks, mostBlocks, leastEdges, mostEdges, mostBudget}
 use Rattle.formats.specs.Versions.{budgetsAt, budgetCount, budgetsIn, largestIn, Claimed}
 use Rattle.formats.specs.GraphSheet.{Header, header, sheetLength, costWord, firstWord, targetWord, nextWord, chain, met, successors}
 use Rattle.formats.specs.GraphSheet.{short, badCounts, badLength, costFits, badCosts, badTargets, badChains, exitChain}
 use Rattle.formats.specs.GraphSheet.{sheetOrder, sheetRefusal, successorCount, Formed, Sound}
 use Rattle.formats.proofs.Chains.{follow-above, chain-length-is, follow-ends}
+use Rattle.formats.proofs.SoundChains.{record-inside, record-short, all-short}
 use Rattle.formats.proofs.Budgets.{graph-records, claimed, largest-small}
 
 -- a block's cost stands in its record
@@ -105,12 +105,13 @@ module _ (h : Header) (w : List ℕ) (A : Sound h w) where
       (from-i (h .edges) 1 e p (omega arith)))
 
   -- 7: an edge of a chain is an edge of the sheet
+  above : (v e : ℕ) → List·Memᴰ e (chain h w v) → 1 ≤ e
+  unfolding chain
+  above v e m = follow-above (nextWord h w) (suc (h .edges)) (firstWord h w v) e m
+
   pub edge-inside : (v e : ℕ) → 1 ≤ v → v ≤ h .blocks → List·Memᴰ e (chain h w v) → (1 ≤ e) × (e ≤ h .edges)
-  unfolding badChains unsound met chain
-  edge-inside v e p q m =
-      let n : List·Memᴰ e (met h w) = each-i (chain h w) (from 1 (h .blocks)) (from-i (h .blocks) 1 v p (omega arith)) m in
-      let q = any-false (λ e. ltb (h .edges) e) (met h w) (or-false _ _ (A .chains) .0) n in
-      (follow-above (nextWord h w) (suc (h .edges)) (firstWord h w v) e m, ltb-false (h .edges) e q)
+  unfolding badChains met
+  edge-inside = record-inside (chain h w) (h .edges) (h .blocks) above (A .chains)
 
   -- so a chain stays inside
   pub chain-inside : {v e : ℕ} → 1 ≤ v → v ≤ h .blocks → e ≡ firstWord h w v → Inside (nextWord h w) (h .edges) (suc (h .edges)) e
@@ -119,25 +120,13 @@ module _ (h : Header) (w : List ℕ) (A : Sound h w) where
 
   -- and a chain has at most E edges, so that its fuel of E + 1 never cuts it
   chain-short : (v : ℕ) → 1 ≤ v → v ≤ h .blocks → length (chain h w v) ≤ h .edges
-  unfolding badChains unsound met
-  chain-short v p q =
-      let r = or-false (any (λ e. ltb (h .edges) e) (met h w)) _ (A .chains) .1 in
-      let t : distinct (met h w) ≡ true = not-false _ (or-false (not (distinct (met h w))) _ r .0) in
-      let d : Distinct (met h w) = distinct-e (met h w) t in
-      pigeonhole (h .edges) (chain h w v) (distinct-part (chain h w) (from 1 (h .blocks)) d (from-i (h .blocks) 1 v p (omega arith)))
-      (λ e m. edge-inside v e p q m)
+  unfolding badChains met
+  chain-short = record-short (chain h w) (h .edges) (h .blocks) above (A .chains)
 
   -- all chains together have at most E edges
   pub met-short : length (met h w) ≤ h .edges
-  unfolding badChains unsound met chain
-  met-short =
-      let r = or-false (any (λ e. ltb (h .edges) e) (met h w)) _ (A .chains) in
-      let t : distinct (met h w) ≡ true = not-false _ (or-false (not (distinct (met h w))) _ (r .1) .0) in
-      pigeonhole (h .edges) (met h w) (distinct-e (met h w) t) (λ e m.
-      let o = each-e (chain h w) (from 1 (h .blocks)) m in (
-        follow-above (nextWord h w) (suc (h .edges)) (firstWord h w (o .0)) e (o .2),
-        ltb-false (h .edges) e (any-false (λ e. ltb (h .edges) e) (met h w) (r .0) m),
-      ))
+  unfolding badChains met
+  met-short = all-short (chain h w) (h .edges) (h .blocks) above (A .chains)
 
   pub chain-ends : (v j : ℕ) → 1 ≤ v → v ≤ h .blocks → follow (nextWord h w) (suc (h .edges) + j) (firstWord h w v) ≡ chain h w v
   unfolding chain

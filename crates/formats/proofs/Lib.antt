@@ -1,5 +1,6 @@
--- chains: chain-length-is, follow-ends
+-- chains: chain-length-is, follow-ends; chains that are sound together: record-inside, record-short
 pub mod Chains
+pub mod SoundChains
 -- the budgets of a header, and what 4 and 41 leave of them: claimed, largest-most
 pub mod Budgets
 -- a bounded sheet's header reads back: header-reads
