@@ -1,15 +1,17 @@
 -- The loop over the numbers 1 to n follows one chain after the other, with one row of marks.
--- Rests on base Search, formats Words, chains Marks.
+-- Rests on base Search, formats Words, chains Marks and Unmarked.
 use mathlib.Core.Path.{_≡_, refl, sym, ap, _∙_}
 use mathlib.Core.Bool.{Bool, true, false, _||_, not}
 use mathlib.Core.List.{List, _++_}
 use Prim.Native.Nat.{ℕ, suc, _+_, _≤_, _<_}
 use native.Mathlib.Omega.{arith}
+use lib.Dec.{ltb}
 use lib.ListN.{length, replicate}
 use Rattle.base.specs.Lists.{each, from}
 use Rattle.base.proofs.Search.{upto, upto-one, upto-more, upto-end}
 use Rattle.formats.specs.Words.{follow, unsound}
-use Rattle.chains.specs.Marks.{missed, unsoundFrom, Marking}
+use Rattle.chains.specs.Marks.{unmarked, unsoundFrom, Marking}
+use Rattle.chains.proofs.Unmarked.{unmarked-clear}
 use Rattle.chains.proofs.Marks.{from-clear}
 
 -- the first record of each number's chain, the next one, and how many records and numbers there are
@@ -20,17 +22,21 @@ module _ (first next : ℕ → ℕ) (m n : ℕ) where
   abbrev whole : Bool
   whole = unsound m (chainsOf (from 1 n))
 
-  -- the chains of the numbers before v are marked, in a row as long as the one that was lent; those from v on decide
-  pub record Following (clear seen : List ℕ) (v : ℕ) : Type 0 where
+  -- the chains of the numbers before v are marked, in a row as long as the one that was lent, and left records are not; those from v on decide
+  pub record Following (clear seen : List ℕ) (left v : ℕ) : Type 0 where
     pub room : length seen ≡ length clear
+    pub count : left ≡ unmarked m seen
+    pub few : left ≤ m
     pub least : 1 ≤ v
     pub most : v ≤ n + 1
     pub rest : whole ≡ unsoundFrom m seen (chainsOf (upto v n))
 
-  pub begin : (seen : List ℕ) → m < length seen → seen ≡ replicate (length seen) 0 → Following seen seen 1
+  pub begin : (seen : List ℕ) → m < length seen → seen ≡ replicate (length seen) 0 → Following seen seen m 1
   begin seen l e =
       record {
         room = refl;
+        count = sym (ap (unmarked m) e ∙ unmarked-clear (length seen) m);
+        few = omega arith;
         least = omega arith;
         most = omega arith;
         rest = from-clear (length seen) m (chainsOf (from 1 n)) l
@@ -38,8 +44,8 @@ module _ (first next : ℕ → ℕ) (m n : ℕ) where
             ∙ ap (λ (vs : List ℕ). unsoundFrom m seen (chainsOf vs)) (sym (upto-one n));
       }
 
-  module _ {v : ℕ} {clear seen : List ℕ} (F : Following clear seen v) where
-    module _ {e : ℕ} {seen′ : List ℕ} {well : Bool} (M : Marking next m e seen seen′ well) (l : v ≤ n) (q : e ≡ first v) where
+  module _ {left v : ℕ} {clear seen : List ℕ} (F : Following clear seen left v) where
+    module _ {e left′ : ℕ} {seen′ : List ℕ} {well : Bool} (M : Marking next m e left seen well left′ seen′) (l : v ≤ n) (q : e ≡ first v) where
       step : (b : Bool) → not well ≡ b → whole ≡ (b || unsoundFrom m seen′ (chainsOf (upto (v + 1) n)))
       unfolding each
       step b t =
@@ -53,9 +59,18 @@ module _ (first next : ℕ → ℕ) (m n : ℕ) where
       pub broken : not well ≡ true → true ≡ whole
       broken t = sym (step true t)
 
-      pub onward : not well ≡ false → Following clear seen′ (v + 1)
-      onward t = record { room = M .same ∙ F .room; least = omega arith; most = omega arith; rest = step false t }
+      pub onward : not well ≡ false → Following clear seen′ left′ (v + 1)
+      onward t =
+          record {
+            room = M .same ∙ F .room;
+            count = M .count;
+            few = omega (arith, M .most, F .few);
+            least = omega arith;
+            most = omega arith;
+            rest = step false t;
+          }
 
-    pub all-done : n < v → missed m seen ≡ whole
+    pub all-done : n < v → ltb 0 left ≡ whole
     unfolding each unsoundFrom
-    all-done l = sym (F .rest ∙ ap (λ (vs : List ℕ). unsoundFrom m seen (chainsOf vs)) (upto-end v n l))
+    all-done l =
+        ap (ltb 0) (F .count) ∙ sym (F .rest ∙ ap (λ (vs : List ℕ). unsoundFrom m seen (chainsOf vs)) (upto-end v n l))

@@ -6,7 +6,6 @@ ghost use lib.ListN.{length, replicate};
 ghost use Rattle.base.specs.Lists.{each, from};
 ghost use Rattle.formats.specs.Words.{field as fieldAt, edgesFrom, unsound};
 use chains::mark_chain;
-use chains::misses;
 use words::field;
 
 // Following all chains meets a record above m, or a record twice, or misses one: the first record of v's is word k of the v-th of the n records
@@ -24,13 +23,16 @@ pub fn unsound_chains(
     requires { ⌜ (m < length (now seen)) × (now seen ≡ replicate (length (now seen)) 0) ⌝ }
     ensures { λ r. ⌜ r ≡ unsound m (each (λ v. edgesFrom (now (s .entry)) base (suc m) (fieldAt (now (s .entry)) at 2 v k)) (from 1 n)) ⌝ }
 {
+    let mut left = m;
     let mut v = 1;
     while v <= n {
         let first = field(s, at, 2, v, k);
-        if !mark_chain(s, seen, base, m, first) {
+        let r = mark_chain(s, seen, base, m, first, left);
+        if !r.sound {
             return true;
         }
+        left = r.left;
         v += 1;
     }
-    misses(seen, m)
+    0 < left
 }

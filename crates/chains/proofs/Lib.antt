@@ -1,4 +1,6 @@
--- unsound chains found with a row of marks: from-clear, missed-are
+-- how many records are not marked: unmarked-set, unmarked-clear
+pub mod Unmarked
+-- unsound chains found with a row of marks: from-clear
 pub mod Marks
 -- one chain followed, turn by turn: Chained, chain-begins, chain-ends, edge-above, edge-twice, edge-new
 pub mod Following

@@ -15,7 +15,8 @@ use Rattle.base.proofs.Truth.{any-or, none-any}
 use Rattle.formats.specs.Words.{unsound}
 use Rattle.base.specs.Cells.{isSet}
 use Rattle.base.proofs.Search.{not-all}
-use Rattle.chains.specs.Marks.{missed, unsoundFrom}
+use Rattle.chains.specs.Marks.{unmarked, unsoundFrom}
+use Rattle.chains.proofs.Unmarked.{getD-zeros, some-kept, marked-set}
 
 -- TESTS JOINED BY OR, in another order
 
@@ -41,14 +42,6 @@ turned false false false n p m = refl
 
 -- ONE MORE MARK
 
-marked-set : (seen : List ℕ) (x e : ℕ) → x < length seen → isSet (set seen x 1) e ≡ (eqb e x || isSet seen e)
-unfolding isSet
-marked-set seen x e h = go (ℕ-discrete e x)
-  where
-    go : Dec (e ≡ x) → not (eqb (getD (set seen x 1) e 0) 0) ≡ (eqb e x || not (eqb (getD seen e 0) 0))
-    go (yes p) = rw (p, getD-set-same seen x 1 0 h, eq-eqb x x refl)
-    go (no n) = rw (getD-set-other seen x e 1 0 n, ne-eqb e x n)
-
 any-marked-set : (seen : List ℕ) (x : ℕ) (es : List ℕ) → x < length seen
     → any (isSet (set seen x 1)) es ≡ (member x es || any (isSet seen) es)
 unfolding member
@@ -63,8 +56,8 @@ unsoundWith m seen es =
     any (λ e. ltb m e) es || ((not (distinct es) || any (isSet seen) es) || not (all (λ e. member e es || isSet seen e) (from 1 m)))
 
 from-any : (m : ℕ) (es seen : List ℕ) → m < length seen → unsoundFrom m seen es ≡ unsoundWith m seen es
-unfolding unsoundFrom missed any distinct member
-from-any m [] seen h = refl
+unfolding unsoundFrom unmarked any distinct member
+from-any m [] seen h = some-kept (λ e. not (isSet seen e)) (from 1 m) ∙ sym (not-all (isSet seen) (from 1 m))
 from-any m (x ∷ es) seen h = go (ltb m x) refl (from-any m es (set seen x 1))
   where
     go : (b : Bool) → ltb m x ≡ b → (m < length (set seen x 1) → unsoundFrom m (set seen x 1) es ≡ unsoundWith m (set seen x 1) es)
@@ -85,11 +78,6 @@ from-any m (x ∷ es) seen h = go (ltb m x) refl (from-any m es (set seen x 1))
 
 -- FROM CLEAR MARKS
 
-getD-zeros : (k i : ℕ) → getD (replicate {A = ℕ} k 0) i 0 ≡ 0
-getD-zeros zero i = refl
-getD-zeros (suc k) zero = refl
-getD-zeros (suc k) (suc i) = getD-zeros k i
-
 pub from-clear : (k m : ℕ) (es : List ℕ) → m < k → unsound m es ≡ unsoundFrom m (replicate k 0) es
 unfolding unsound isSet
 from-clear k m es h =
@@ -100,8 +88,3 @@ from-clear k m es h =
     = λ e. ap (λ (b : Bool). member e es || b) (clear e) ∙ or-false (member e es) in
     sym (from-any m es (replicate k 0) (rw length-replicate h)
     ∙ (λ i. any (λ e. ltb m e) es || (twice i || not (all (λ e. same e i) (from 1 m)))))
-
--- a record that is not marked
-pub missed-are : (m : ℕ) (seen : List ℕ) → missed m seen ≡ any (λ e. not (isSet seen e)) (from 1 m)
-unfolding missed
-missed-are m seen = not-all (isSet seen) (from 1 m)
