@@ -15,9 +15,9 @@ use Rattle.record_check.specs.Records.{badRecords}
 
 module _ (h : Heading) (s : List ℕ) (R : badRecords h s ≡ false) where
   -- what the copies keep: blocks within their limits, in order
-  in-order : (badBlocks h s ≡ false) × (badCopyOrder h s ≡ false)
+  pub kept-order : (badBlocks h s ≡ false) × (badCopyOrder h s ≡ false)
   unfolding badRecords
-  in-order =
+  kept-order =
       let p = or-false (badBlocks h s) _ R in
       let q = or-false (badLows h s) _ (p .1) in
       (p .0, or-false (badCopyOrder h s) _ (q .1) .0)
@@ -29,20 +29,20 @@ module _ (h : Heading) (s : List ℕ) (R : badRecords h s ≡ false) where
   module _ {k : ℕ} (l : k ≤ n) where
     module _ {v : ℕ} (q : v ≡ blockAt h s (k + 1)) where
       pub one-more : k < h .copies → v ≡ 1 → k + 1 ≤ n
-      one-more m e = ordered-in h s (in-order .0) (in-order .1) (k + 1) (omega arith) (omega arith) (sym q ∙ e)
+      one-more m e = ordered-in h s (kept-order .0) (kept-order .1) (k + 1) (omega arith) (omega arith) (sym q ∙ e)
 
       pub other-block : (v ≡ 1 → ⊥) → k ≡ n
       other-block e = go (ℕ-discrete k n)
         where
           go : Dec (k ≡ n) → k ≡ n
           go (yes z) = z
-          go (no z) = absurd (e (q ∙ ordered-out h s (in-order .0) (in-order .1) (k + 1) (omega arith) (omega arith) .1))
+          go (no z) = absurd (e (q ∙ ordered-out h s (kept-order .0) (kept-order .1) (k + 1) (omega arith) (omega arith) .1))
 
     pub no-more : h .copies ≤ k → k ≡ n
-    no-more m = omega (arith, ordered-most h s (in-order .0) (in-order .1))
+    no-more m = omega (arith, ordered-most h s (kept-order .0) (kept-order .1))
 
 -- the copies of block 1, where k are counted and the test of the records passed
 pub starts-are : (h : Heading) (s : List ℕ) {p : Bool} {k : ℕ} → p ≡ badRecords h s → p ≡ false → k ≡ startCount h s → copiesOf h s 1 ≡ from 1 k
 starts-are h s P e q =
-    let o = in-order h s (sym P ∙ e) in
+    let o = kept-order h s (sym P ∙ e) in
     ordered-front h s (o .0) (o .1) ∙ ap (from 1) (sym q)

@@ -5,9 +5,13 @@ use mathlib.Core.List.{List}
 use Prim.Native.Nat.{ℕ}
 use Rattle.formats.specs.Versions.{budgetsIn}
 use Rattle.formats.specs.BoundedSheet.{Heading, entriesIn}
-use Rattle.formats.specs.Rule11.{badTargetWords}
+use Rattle.formats.specs.Rule11.{notOneOf, badExit, badTargetWords}
 use Rattle.record_check.specs.Records.{badRecords}
 use Rattle.entry_check.specs.Entries.{badEntryWords}
 
+-- the clauses on the exit
+unfoldable pub badExits : Heading → List ℕ → Bool
+badExits h s = notOneOf h s 2 || badExit h s
+
 unfoldable pub badBehind : Heading → List ℕ → Bool
-badBehind h s = badRecords h s || (badTargetWords h s || badEntryWords h s (budgetsIn s) (entriesIn s))
+badBehind h s = badRecords h s || (badExits h s || (badTargetWords h s || badEntryWords h s (budgetsIn s) (entriesIn s)))

@@ -2,5 +2,5 @@
 -- Rests on formats, record_check, entry_check.
 -- the clauses on the header and the length: badForm
 pub mod Form
--- the clauses behind the header: badBehind
+-- the clauses behind the header: badExits, badBehind
 pub mod Behind

@@ -14,7 +14,7 @@ ghost use Rattle.formats.specs.Rule11.{copiesOf, startCount, badTargetWords, bo
 ghost use Rattle.record_check.specs.Records.{badRecords};
 ghost use Rattle.entry_check.specs.Entries.{badEntryWords};
 ghost use Rattle.bounded_check.specs.Form.{badForm};
-ghost use Rattle.bounded_check.specs.Behind.{badBehind};
+ghost use Rattle.bounded_check.specs.Behind.{badExits, badBehind};
 use budgets::bad_budgets;
 use entry_check::bad_entry_words;
 use headers::budgets_part;
@@ -66,7 +66,7 @@ fn bad_form(s: &[u16], at: usize, c: usize, f: usize, b: usize) -> bool
     bad_budgets(s)
 }
 
-// THE START COPIES, THE TARGETS AND THE ENTRIES, behind any header: c copies and f edges from the word `at` on, and the largest budget b
+// THE START COPIES, THE EXIT, THE TARGETS AND THE ENTRIES, behind any header: c copies and f edges from the word `at` on, and the largest budget b
 
 // The number of start copies, those of block 1, which are the first ones: the first copy of another block ends them.
 fn count_starts(s: &[u16], at: usize, c: usize, f: usize, b: usize) -> usize
@@ -82,6 +82,32 @@ fn count_starts(s: &[u16], at: usize, c: usize, f: usize, b: usize) -> usize
         k += 1;
     }
     k
+}
+
+// The exit is not the only copy of block 2, or has a low or a chain. In copies in order it stands behind the k start copies, and no copy of its
+// block behind it.
+fn bad_exits(s: &[u16], at: usize, c: usize, f: usize, b: usize, k: usize) -> bool
+    requires { ⌜ Formed (headingOf at c f b) (now s) ⌝ }
+    requires { ⌜ badRecords (headingOf at c f b) (now s) ≡ false ⌝ }
+    requires { ⌜ (k ≡ startCount (headingOf at c f b) (now s)) × (k ≤ c) ⌝ }
+    ensures { λ r. ⌜ r ≡ badExits (headingOf at c f b) (now (s .entry)) ⌝ }
+{
+    if k == c {
+        return true;
+    }
+    if field(s, at, 3, k + 1, 0) != 2 {
+        return true;
+    }
+    if field(s, at, 3, k + 1, 1) != 0 {
+        return true;
+    }
+    if field(s, at, 3, k + 1, 2) != 0 {
+        return true;
+    }
+    if k + 1 == c {
+        return false;
+    }
+    field(s, at, 3, k + 2, 0) == 2
 }
 
 // A target that is neither 0 nor one of the copies k + 1 to n, those that are no start copies.
@@ -129,7 +155,7 @@ fn bad_entries(s: &[u16], at: usize, c: usize, f: usize, b: usize, k: usize) -> 
     bad_entry_words(s, at, c, f, b, k, bs, &one)
 }
 
-// The clauses behind the header: the copies and the order of the edges, then the targets, then the entries.
+// The clauses behind the header: the copies and the order of the edges, then the exit, the targets, and the entries.
 fn bad_behind(s: &[u16], at: usize, c: usize, f: usize, b: usize) -> bool
     requires { ⌜ Formed (headingOf at c f b) (now s) ⌝ }
     requires { ⌜ (leastWords ≤ length (now s)) × (heading (now s) .records ≤ length (now s)) × (1 ≤ budgetCount (now s)) ⌝ }
@@ -139,6 +165,9 @@ fn bad_behind(s: &[u16], at: usize, c: usize, f: usize, b: usize) -> bool
         return true;
     }
     let k = count_starts(s, at, c, f, b);
+    if bad_exits(s, at, c, f, b, k) {
+        return true;
+    }
     if bad_targets(s, at, c, f, b, k) {
         return true;
     }

@@ -1,13 +1,11 @@
 -- What is wrong with a copy by itself, and behind the copy before it.
 -- Rests on base Copy and Checks, formats Limits.
-use mathlib.Core.Bool.{Bool, _&&_, _||_, not}
+use mathlib.Core.Bool.{Bool, _||_, not}
 use Prim.Native.Nat.{ℕ}
-use lib.Dec.{eqb, ltb}
+use lib.Dec.{ltb}
 use Rattle.base.specs.Copy.{Copy, before}
 use Rattle.base.specs.Checks.{outside}
 use Rattle.formats.specs.Limits.{mostBlocks}
 
-unfoldable pub badCopy : ℕ → Copy → Copy → ℕ → Bool
-badCopy b c d first =
-    outside 1 mostBlocks (d .block)
-    || (ltb b (d .low) || (not (before c d) || (eqb (d .block) 2 && not (eqb (d .low) 0 && eqb first 0))))
+unfoldable pub badCopy : ℕ → Copy → Copy → Bool
+badCopy b c d = outside 1 mostBlocks (d .block) || (ltb b (d .low) || not (before c d))

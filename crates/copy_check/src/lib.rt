@@ -21,22 +21,9 @@ fn is_before(v: usize, a: usize, w: usize, b: usize) -> bool
     a < b
 }
 
-// Block 2 has a low or a chain.
-fn is_bad_exit(v: usize, a: usize, first: usize) -> bool
-    ensures { λ r. ⌜ r ≡ (eqb v 2 && not (eqb a 0 && eqb first 0)) ⌝ }
-{
-    if v != 2 {
-        return false;
-    }
-    if a != 0 {
-        return true;
-    }
-    first != 0
-}
-
-// What is wrong with a copy (v, a) by itself and behind the copy (w, l): its block, its low, its place, or the exit's low or chain.
-pub fn is_bad_copy(b: usize, w: usize, l: usize, v: usize, a: usize, first: usize) -> bool
-    ensures { λ r. ⌜ r ≡ badCopy b (copyOf w l) (copyOf v a) first ⌝ }
+// What is wrong with a copy (v, a) by itself and behind the copy (w, l): its block, its low, or its place.
+pub fn is_bad_copy(b: usize, w: usize, l: usize, v: usize, a: usize) -> bool
+    ensures { λ r. ⌜ r ≡ badCopy b (copyOf w l) (copyOf v a) ⌝ }
 {
     if is_outside(1, MOST_BLOCKS, v) {
         return true;
@@ -44,8 +31,5 @@ pub fn is_bad_copy(b: usize, w: usize, l: usize, v: usize, a: usize, first: usiz
     if b < a {
         return true;
     }
-    if !is_before(w, l, v, a) {
-        return true;
-    }
-    is_bad_exit(v, a, first)
+    !is_before(w, l, v, a)
 }

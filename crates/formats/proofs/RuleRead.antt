@@ -132,14 +132,14 @@ chosen-from (suc k) a (suc i) x e = let p = chosen-from k (suc a) i x e in omega
 
 -- COPIES IN ORDER, of blocks from 1 on: those of block 1 are the first ones
 module _ (h : Heading) (s : List ℕ) (B : badBlocks h s ≡ false) (O : badCopyOrder h s ≡ false) where
-  in-order : (i : ℕ) → 1 ≤ i → suc i < 1 + h .copies → before (copyAt h s i) (copyAt h s (suc i)) ≡ true
+  pub in-order : (i : ℕ) → 1 ≤ i → suc i < 1 + h .copies → before (copyAt h s i) (copyAt h s (suc i)) ≡ true
   unfolding badCopyOrder
   in-order i p q =
       let m = from-i (h .copies - 1) 1 i p (omega arith) in
       let f = any-false (λ i. not (before (copyAt h s i) (copyAt h s (suc i)))) (from 1 (h .copies - 1)) O m in
       not-false (before (copyAt h s i) (copyAt h s (suc i))) f
 
-  block-above : (i : ℕ) → 1 ≤ i → i ≤ h .copies → 1 ≤ blockAt h s i
+  pub block-above : (i : ℕ) → 1 ≤ i → i ≤ h .copies → 1 ≤ blockAt h s i
   unfolding badBlocks
   block-above i p q =
       inside-of 1 mostBlocks (blockAt h s i)

@@ -34,19 +34,8 @@ fn chain_end(s: &[u16], base: usize, m: usize, first: usize, due: usize) -> usiz
     e
 }
 
-// One more where the blocks are the same.
-fn tally(count: usize, v: usize, w: usize) -> usize
-    requires { ⌜ count ≤ mostCopies ⌝ }
-    ensures { λ r. ⌜ (v ≡ w → r ≡ suc count) × ((v ≡ w → ⊥) → r ≡ count) ⌝ }
-{
-    if v == w {
-        return count + 1;
-    }
-    count
-}
-
-// One pass over the copies, of which copy i has the words from the word p on: a bad copy, not one copy of block 2, or chains that do not meet
-// the edges 1 to F in this order.
+// One pass over the copies, of which copy i has the words from the word p on: a bad copy, or chains that do not meet the edges 1 to F in this
+// order.
 pub fn bad_copies(s: &[u16], at: usize, c: usize, f: usize, b: usize) -> bool
     requires { ⌜ Formed (headingOf at c f b) (now s) ⌝ }
     ensures { λ r. ⌜ r ≡ badRecords (headingOf at c f b) (now (s .entry)) ⌝ }
@@ -54,7 +43,6 @@ pub fn bad_copies(s: &[u16], at: usize, c: usize, f: usize, b: usize) -> bool
     let base = at + 3 * c;
     let mut w = 0;
     let mut l = 0;
-    let mut twos = 0;
     let mut e = 1;
     let mut i = 1;
     let mut p = at;
@@ -62,22 +50,18 @@ pub fn bad_copies(s: &[u16], at: usize, c: usize, f: usize, b: usize) -> bool
         let v = word_at(s, p);
         let a = word_at(s, p + 1);
         let first = word_at(s, p + 2);
-        if is_bad_copy(b, w, l, v, a, first) {
+        if is_bad_copy(b, w, l, v, a) {
             return true;
         }
         let end = chain_end(s, base, f, first, e);
         if end == 0 {
             return true;
         }
-        twos = tally(twos, v, 2);
         e = end;
         w = v;
         l = a;
         i += 1;
         p += 3;
-    }
-    if twos != 1 {
-        return true;
     }
     e != f + 1
 }

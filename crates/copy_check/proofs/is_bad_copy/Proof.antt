@@ -9,25 +9,16 @@ use Rattle.copy_check.proofs.is_bad_copy.Statement.{statement}
 use Rattle.copy_check.proofs.is_bad_copy.Tie as tie
 
 returns : tie.Need-returns
-returns c = sym (copy-is _ _ _ _ true _ _ _ (sym (c .before .is-outside .ensures) ∙ c .if1 .taken) refl refl refl)
+returns c = sym (copy-is _ _ _ true _ _ (sym (c .before .is-outside .ensures) ∙ c .if1 .taken) refl refl)
 
 returns-2 : tie.Need-returns-2
-returns-2 c =
-    sym (copy-is _ _ _ _ false true _ _ (sym (c .before .before .is-outside .ensures) ∙ c .before .if1 .left) (lt-ltb _ _ (c .if2 .taken)) refl refl)
+returns-2 c = sym (copy-is _ _ _ false true _ (sym (c .before .before .is-outside .ensures) ∙ c .before .if1 .left) (lt-ltb _ _ (c .if2 .taken)) refl)
 
 returns-3 : tie.Need-returns-3
 returns-3 c =
-    let z = c .before .before .before in
-    sym (copy-is _ _ _ _ false false true _ (sym (z .before .is-outside .ensures) ∙ z .if1 .left) (le-ltb _ _ (c .before .before .if2 .left))
-    (ap not (sym (c .before .is-before .ensures)) ∙ c .if3 .taken) refl)
-
-returns-4 : tie.Need-returns-4
-returns-4 c =
-    let z = c .before .before .before .before in
-    sym (copy-is _ _ _ _ false false false _ (sym (z .before .is-outside .ensures) ∙ z .if1 .left) (le-ltb _ _ (c .before .before .before .if2 .left))
-    (ap not (sym (c .before .before .is-before .ensures)) ∙ c .before .if3 .left) (sym (c .is-bad-exit .ensures)))
+    let z = c .before .before in
+    sym (copy-is _ _ _ false false _ (sym (z .before .is-outside .ensures) ∙ z .if1 .left) (le-ltb _ _ (c .before .if2 .left))
+    (ap not (sym (c .is-before .ensures))))
 
 pub is-bad-copy-spec : {M : Type 1} → statement M
-is-bad-copy-spec =
-    tie.close
-    (tie.spec (λ c κs. search needs) returns returns-2 (λ c κs. search needs) returns-3 (λ c κs. search needs) returns-4)
+is-bad-copy-spec = tie.close (tie.spec (λ c κs. search needs) returns returns-2 (λ c κs. search needs) returns-3)

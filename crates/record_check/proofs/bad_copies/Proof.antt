@@ -1,4 +1,4 @@
--- One pass over the copies: each is tested behind the one before it, its chain is followed, and it is counted where it is of block 2.
+-- One pass over the copies: each is tested behind the one before it, and its chain is followed.
 -- Rests on Records.
 use borrow.Author.Needs.{needs}
 use mathlib.Core.Path.{_≡_, ap, _∙_}
@@ -7,15 +7,15 @@ use Prim.Native.Nat.{ℕ, _+_, _-_, _*_}
 use native.Mathlib.Omega.{arith}
 use Rattle.formats.specs.Words.{word}
 use Rattle.formats.specs.BoundedSheet.{Heading, headingOf, blockAt, lowAt, firstAt}
-use Rattle.record_check.proofs.Records.{Checking, begin, bad-copy, bad-chain, goes-on, bad-twos, bad-end}
+use Rattle.record_check.proofs.Records.{Checking, begin, bad-copy, bad-chain, goes-on, all-passed}
 use Rattle.record_check.proofs.bad_copies.Statement.{statement}
 use Rattle.record_check.proofs.bad_copies.Tie as tie
 
 abbrev Inv-loop : tie.InvT-loop
-Inv-loop s at c f b base w₀ l₀ twos₀ e₀ i₀ p₀ w l twos e i p = Checking (headingOf at c f b) s i w l twos e × (p + 3 ≡ at + 3 * i)
+Inv-loop s at c f b base w₀ l₀ e₀ i₀ p₀ w l e i p = Checking (headingOf at c f b) s i w l e × (p + 3 ≡ at + 3 * i)
 
 abbrev μ-loop : tie.MeasureT-loop
-μ-loop s at c f b base w₀ l₀ twos₀ e₀ i₀ p₀ w l twos e i p = c + 1 - i
+μ-loop s at c f b base w₀ l₀ e₀ i₀ p₀ w l e i p = c + 1 - i
 
 mul-base : tie.Need-mul-base Inv-loop μ-loop
 mul-base c = omega (arith, c .before .pre .size)
@@ -93,44 +93,32 @@ returns-2 c =
     bad-chain (h z) (s z) (t .before .loop .inv .0) (t .loop-test .taken) (block z) (low z) (first z) (c .before .chain-end .ensures)
     (c .if2 .taken)
 
-tally-requires : tie.Need-tally-requires Inv-loop μ-loop
-tally-requires c κs =
-    let loop-test = c .before .before .before .before .before .before .before .loop-test in
-    let l = c .before .before .before .before .before .before .before .before in
-    omega (arith, l .loop .inv .0 .twos .few, loop-test .taken, l .before .before .pre .copies)
-
 add-p : tie.Need-add-p Inv-loop μ-loop
 add-p c =
-    let loop-test = c .before .before .before .before .before .before .before .before .loop-test in
-    let l = c .before .before .before .before .before .before .before .before .before in
+    let loop-test = c .before .before .before .before .before .before .before .loop-test in
+    let l = c .before .before .before .before .before .before .before .before in
     omega (arith, l .loop .inv .1, loop-test .taken, l .before .before .pre .copies, l .before .before .pre .size)
 
 loop-again : tie.Need-loop-again Inv-loop μ-loop
 loop-again c =
-    let y = c .before .before in
+    let y = c .before in
     let z = y .before .before .before in
     let t = z .before .before .before in (
       goes-on (h z) (s z) (t .before .loop .inv .0) (t .loop-test .taken) (block z) (low z) (first z) (y .chain-end .ensures)
-          (y .before .before .is-bad-copy .ensures) (y .before .if1 .left) (c .before .if2 .left) (c .tally .ensures),
+          (y .before .before .is-bad-copy .ensures) (y .before .if1 .left) (c .if2 .left),
       omega (arith, t .before .loop .inv .1),
     )
 
+add-result : tie.Need-add-result Inv-loop μ-loop
+add-result c = omega (arith, c .before .before .before .pre .edges)
+
 returns-3 : tie.Need-returns-3 Inv-loop μ-loop
 returns-3 c =
-    let l = c .before .before in
-    bad-twos _ _ (l .loop .inv .0) (c .before .loop-test .left) (omega (arith, l .before .before .pre .copies)) (c .if3 .taken)
-
-add-result : tie.Need-add-result Inv-loop μ-loop
-add-result c = omega (arith, c .before .before .before .before .pre .edges)
-
-returns-4 : tie.Need-returns-4 Inv-loop μ-loop
-returns-4 c =
-    let l = c .before .before in
-    bad-end _ _ (l .loop .inv .0) (c .before .loop-test .left) (omega (arith, l .before .before .pre .copies)) (c .if3 .left)
+    let l = c .before in
+    all-passed _ _ (l .loop .inv .0) (omega (arith, l .before .before .pre .copies)) (c .loop-test .left)
 
 pub bad-copies-spec : {M : Type 1} → statement M
 bad-copies-spec =
     tie.close
     (tie.spec Inv-loop μ-loop mul-base add-base loop-holds word-at-requires add-word-at word-at-requires-2 add-word-at-2 word-at-requires-3
-    (λ c κs. search needs) returns chain-end-requires returns-2 tally-requires (λ c. search needs) add-p (λ c. search needs) loop-again
-    returns-3 add-result returns-4)
+    (λ c κs. search needs) returns chain-end-requires returns-2 (λ c. search needs) add-p (λ c. search needs) loop-again add-result returns-3)
