@@ -21,7 +21,7 @@ use Rattle.record_check.specs.Records.{badRecords}
 use Rattle.bounded_check.specs.Behind.{badExits}
 use Rattle.bounded_check.proofs.Starts.{kept-order}
 
-module _ (h : Heading) (s : List ℕ) (R : badRecords h s ≡ false) where
+module _ (h : Heading) (s : List ℕ) (k : ℕ) (R : badRecords h s k ≡ false) where
   abbrev c : ℕ
   c = h .copies
 
@@ -30,7 +30,7 @@ module _ (h : Heading) (s : List ℕ) (R : badRecords h s ≡ false) where
       → (blockAt h s i ≤ blockAt h s (suc i)) × (blockAt h s i ≡ blockAt h s (suc i) → lowAt h s i < lowAt h s (suc i))
   unfolding copyAt
   next i p q =
-      let o = kept-order h s R in
+      let o = kept-order h s k R in
       ⊎-elim (λ l. (omega arith, λ e. absurd (omega arith))) (λ e. (omega (arith, e .0), λ _. e .1))
       (before-cases (copyAt h s i) (copyAt h s (suc i)) (in-order h s (o .0) (o .1) i p (omega arith)))
 
@@ -68,9 +68,9 @@ module _ (h : Heading) (s : List ℕ) (R : badRecords h s ≡ false) where
       go (i ∷ is) e = let o = an-exit i (subst (List·Memᴰ i) (sym e) (List·Memᴰ·head refl)) in absurd (none i (o .0) (o .1) (o .2))
 
   -- BEHIND k START COPIES
-  module _ {k : ℕ} (q : k ≡ startCount h s) (l : k ≤ c) where
+  module _ (q : k ≡ startCount h s) (l : k ≤ c) where
     start : (i : ℕ) → 1 ≤ i → i ≤ k → blockAt h s i ≡ 1
-    start i p m = let o = kept-order h s R in ordered-out h s (o .0) (o .1) i p (omega arith) .1
+    start i p m = let o = kept-order h s k R in ordered-out h s (o .0) (o .1) i p (omega arith) .1
 
     pub starts-alone : k ≡ c → true ≡ badExits h s
     starts-alone e = no-exit (λ i p m z. omega (arith, start i p (omega arith)))
@@ -82,7 +82,7 @@ module _ (h : Heading) (s : List ℕ) (R : badRecords h s ≡ false) where
 
       above : 2 ≤ blockAt h s x
       above =
-          let o = kept-order h s R in
+          let o = kept-order h s k R in
           let b : 1 ≤ blockAt h s x = block-above h s (o .0) (o .1) x (omega arith) (omega arith) in
           let n : blockAt h s x ≡ 1 → ⊥ = λ e. let z = ordered-in h s (o .0) (o .1) x (omega arith) (omega arith) e in omega arith in
           omega arith

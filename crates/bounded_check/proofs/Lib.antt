@@ -1,7 +1,7 @@
+-- the start copies, counted by a loop: one-more; kept-order, records-lead, starts-are, start-copies
+pub mod Starts
 -- rule 11 in its parts: form-is, header-there, answer-read; records-bad, entries-left; the last budget tells: last-serves
 pub mod Rule
--- the start copies, counted by a loop: one-more, other-block, starts-are, kept-order
-pub mod Starts
 -- the exit behind the start copies: starts-alone, other-block, exit-low, exit-chain, one-exit, second-tells
 pub mod Exit
 -- the budgets and the entries as parts of the sheet: part-lengths, parts-say

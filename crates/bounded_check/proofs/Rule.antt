@@ -1,5 +1,5 @@
 -- Rule 11 in its parts, as functions that return early find them.
--- Rests on base Numbers, Orders and Truth, formats Budgets, Headings and RuleRead, record_check Records, entry_check Entries, specs Form and Behind.
+-- Rests on base Numbers, Orders and Truth, formats Budgets, Headings and RuleRead, record_check Records, entry_check Entries, specs Form, Behind and Starts, Starts.
 use mathlib.Core.Path.{_≡_, refl, sym, ap, subst, _∙_}
 use mathlib.Core.Bool.{Bool, true, false, _||_, not, or-assoc, or-false, or-true}
 use mathlib.Core.List.{List, [], _∷_, map}
@@ -21,10 +21,12 @@ use Rattle.formats.specs.Rule11.{badTargetWords, badEntries, noLastEntry, unnam
 use Rattle.formats.proofs.Budgets.{bounded-records}
 use Rattle.formats.proofs.Headings.{largest-is}
 use Rattle.formats.proofs.RuleRead.{formed}
-use Rattle.record_check.specs.Records.{badRecords}
+use Rattle.record_check.specs.Records.{isStray, badEdges, badRecords}
 use Rattle.entry_check.specs.Entries.{badEntryWords}
 use Rattle.bounded_check.specs.Form.{badForm}
 use Rattle.bounded_check.specs.Behind.{badExits, badBehind}
+use Rattle.bounded_check.specs.Starts.{Leading}
+use Rattle.bounded_check.proofs.Starts.{records-lead}
 
 -- conditions that all have one number: it is answered where some condition holds
 one-number : {I : Type 0} (k : ℕ) (fs : List (I → Bool)) (i : I) → refused (map (λ f. (k, f)) fs) i ≡ pick (any (λ f. f i) fs) k 0
@@ -37,13 +39,16 @@ one-number {I} k (f ∷ fs) i = go (f i) refl (one-number k fs i)
     go true e below = rw (e, refused)
     go false e below = rw (e, refused) below
 
--- the edge order is tested before the exit
-moved : (a b c x : Bool) → (a || (b || (c || x))) ≡ (c || (a || (b || x)))
-moved true b true x = refl
-moved true b false x = refl
-moved false true true x = refl
-moved false true false x = refl
-moved false false c x = refl
+-- the edges are tested before the exit
+moved : (a b c d x : Bool) → (a || (b || (c || (d || x)))) ≡ ((c || d) || ((a || b) || x))
+moved true b true d x = refl
+moved true b false true x = refl
+moved true b false false x = refl
+moved false true true d x = refl
+moved false true false true x = refl
+moved false true false false x = refl
+moved false false true d x = refl
+moved false false false d x = refl
 
 -- THE FIRST PART, for any header
 module _ (h : Heading) (s : List ℕ) where
@@ -109,17 +114,19 @@ module _ (s : List ℕ) where
 
   -- behind a part that holds the others may say anything
   answer-is : (a b c : Bool) → tooShort s ≡ a → badForm h s ≡ b → badBehind h s ≡ c → boundedRefusal s ≡ pick (a || (b || c)) 11 0
-  unfolding boundedRefusal boundedOrder clauses badForm badBehind badRecords badExits badEntryWords any
+  unfolding boundedRefusal boundedOrder clauses badForm badBehind badRecords badEdges badTargetWords isStray badExits badEntryWords any
   answer-is a b c p q r =
       let budgets : (badBudget s || (badBudgets s || badBehind h s)) ≡ (ltb mostBudget (h .largest) || (badBudgets s || badBehind h s)) =
       last-serves (badBehind h s) in
-      let rest : Bool = badTargetWords h s || badEntryWords h s (budgetsIn s) (entriesIn s) in
-      let exits : (notOneOf h s 2 || (badExit h s || (badEdgeOrder h s || rest))) ≡ (badEdgeOrder h s || (notOneOf h s 2 || (badExit h s || rest))) =
-      moved (notOneOf h s 2) (badExit h s) (badEdgeOrder h s) rest in
-      let behind : (badBlocks h s || (badLows h s || (badCopyOrder h s || (notOneOf h s 2 || (badExit h s || (badEdgeOrder h s || rest)))))) ≡ badBehind h s =
-      ap (λ (b : Bool). badBlocks h s || (badLows h s || (badCopyOrder h s || b))) exits ∙ simp or-assoc in
+      let entries : Bool = badEntryWords h s (budgetsIn s) (entriesIn s) in
+      let behind : (badBlocks h s || (badLows h s || (badCopyOrder h s
+      || (notOneOf h s 2 || (badExit h s || (badEdgeOrder h s || (badTargetWords h s || entries))))))) ≡ badBehind h s =
+      ap (λ (b : Bool). badBlocks h s || (badLows h s || (badCopyOrder h s || b)))
+      (moved (notOneOf h s 2) (badExit h s) (badEdgeOrder h s) (badTargetWords h s) entries)
+      ∙ simp or-assoc in
       let listed : any (λ f. f s) clauses ≡ (tooShort s || (badLimits h s || (wrongLength h s || (badBudget s || (badBudgets s
-      || (badBlocks h s || (badLows h s || (badCopyOrder h s || (notOneOf h s 2 || (badExit h s || (badEdgeOrder h s || rest))))))))))) =
+      || (badBlocks h s || (badLows h s || (badCopyOrder h s
+      || (notOneOf h s 2 || (badExit h s || (badEdgeOrder h s || (badTargetWords h s || entries)))))))))))) =
       simp or-false in
       let parts : any (λ f. f s) clauses ≡ (tooShort s || (badLimits h s || (wrongLength h s || (badBudget s || (badBudgets s || badBehind h s))))) =
       listed ∙ ap (λ (b : Bool). tooShort s || (badLimits h s || (wrongLength h s || (badBudget s || (badBudgets s || b))))) behind in
@@ -156,23 +163,18 @@ module _ (s : List ℕ) where
         answer-read {b} r t =
             sym (answer-is false false b long (said ∙ e) (ap (λ (x : Heading). badBehind x s) (sym q) ∙ sym r ∙ t))
 
--- BEHIND THE HEADER, by the tests of the records, the exit, the targets and the entries
-module _ (h : Heading) (s : List ℕ) {p : Bool} (P : p ≡ badRecords h s) where
-  behind-is : (a x b c : Bool) → p ≡ a → badExits h s ≡ x → badTargetWords h s ≡ b → badEntryWords h s (budgetsIn s) (entriesIn s) ≡ c
-      → (a || (x || (b || c))) ≡ badBehind h s
+-- BEHIND THE HEADER, by the tests of the records, the exit and the entries
+module _ (h : Heading) (s : List ℕ) {k : ℕ} {p : Bool} (L : Leading h s k) (P : p ≡ badRecords h s k) where
+  behind-is : (a x c : Bool) → p ≡ a → badExits h s ≡ x → badEntryWords h s (budgetsIn s) (entriesIn s) ≡ c → (a || (x || c)) ≡ badBehind h s
   unfolding badBehind
-  behind-is a x b c f g y z = λ i. (sym f ∙ P) i || (sym g i || (sym y i || sym z i))
+  behind-is a x c f g z = λ i. (sym f ∙ P ∙ records-lead h s k L) i || (sym g i || sym z i)
 
   pub records-bad : p ≡ true → true ≡ badBehind h s
-  records-bad e = behind-is true _ _ _ e refl refl refl
+  records-bad e = behind-is true _ _ e refl refl
 
   module _ (e : p ≡ false) {x : Bool} (X : x ≡ badExits h s) where
     pub exits-bad : x ≡ true → true ≡ badBehind h s
-    exits-bad g = behind-is false true _ _ e (sym X ∙ g) refl refl
+    exits-bad g = behind-is false true _ e (sym X ∙ g) refl
 
-    module _ (g : x ≡ false) {q : Bool} (Q : q ≡ badTargetWords h s) where
-      pub targets-bad : q ≡ true → true ≡ badBehind h s
-      targets-bad f = behind-is false false true _ e (sym X ∙ g) (sym Q ∙ f) refl
-
-      pub entries-left : {r : Bool} → q ≡ false → r ≡ badEntryWords h s (budgetsIn s) (entriesIn s) → r ≡ badBehind h s
-      entries-left f R = behind-is false false false _ e (sym X ∙ g) (sym Q ∙ f) (sym R)
+    pub entries-left : {r : Bool} → x ≡ false → r ≡ badEntryWords h s (budgetsIn s) (entriesIn s) → r ≡ badBehind h s
+    entries-left g R = behind-is false false _ e (sym X ∙ g) (sym R)

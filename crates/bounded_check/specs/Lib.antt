@@ -4,3 +4,5 @@
 pub mod Form
 -- the clauses behind the header: badExits, badBehind
 pub mod Behind
+-- the first copies of block 1: Leading
+pub mod Starts

@@ -1,20 +1,20 @@
 // A public call on a bounded sheet of either version: rule 11, each word of the sheet looked at a few times at most.
 // Rests on words, headers, budgets, record_check, entry_check; the promise is an equation with formats Rule11.
 ghost use mathlib.Core.Path.{_≡_};
-ghost use mathlib.Core.Bool.{false, _&&_, _||_, not};
+ghost use mathlib.Core.Bool.{false, _||_};
 ghost use Prim.Native.Nat.{suc, _+_, _*_, _≤_, _<_};
-ghost use lib.Dec.{eqb};
 ghost use lib.ListN.{length};
 ghost use Rattle.base.specs.Lists.{from};
 ghost use Rattle.base.specs.Checks.{outside};
 ghost use Rattle.formats.specs.Limits.{leastWords, wordLimit, leastCopies, mostCopies, leastBoundedEdges, mostBoundedEdges};
 ghost use Rattle.formats.specs.Versions.{budgetCount, budgetsIn};
 ghost use Rattle.formats.specs.BoundedSheet.{headingOf, heading, entriesIn};
-ghost use Rattle.formats.specs.Rule11.{copiesOf, startCount, badTargetWords, boundedRefusal, Formed};
+ghost use Rattle.formats.specs.Rule11.{copiesOf, startCount, boundedRefusal, Formed};
 ghost use Rattle.record_check.specs.Records.{badRecords};
 ghost use Rattle.entry_check.specs.Entries.{badEntryWords};
 ghost use Rattle.bounded_check.specs.Form.{badForm};
 ghost use Rattle.bounded_check.specs.Behind.{badExits, badBehind};
+ghost use Rattle.bounded_check.specs.Starts.{Leading};
 use budgets::bad_budgets;
 use entry_check::bad_entry_words;
 use headers::budgets_part;
@@ -30,7 +30,6 @@ use words::MOST_BUDGET;
 use words::MOST_COPIES;
 use words::field;
 use words::is_either_outside;
-use words::is_outside;
 
 // THE HEADER AND THE LENGTH
 
@@ -66,13 +65,12 @@ fn bad_form(s: &[u16], at: usize, c: usize, f: usize, b: usize) -> bool
     bad_budgets(s)
 }
 
-// THE START COPIES, THE EXIT, THE TARGETS AND THE ENTRIES, behind any header: c copies and f edges from the word `at` on, and the largest budget b
+// THE START COPIES, THE EXIT AND THE ENTRIES, behind any header: c copies and f edges from the word `at` on, and the largest budget b
 
 // The number of start copies, those of block 1, which are the first ones: the first copy of another block ends them.
 fn count_starts(s: &[u16], at: usize, c: usize, f: usize, b: usize) -> usize
     requires { ⌜ Formed (headingOf at c f b) (now s) ⌝ }
-    requires { ⌜ badRecords (headingOf at c f b) (now s) ≡ false ⌝ }
-    ensures { λ k. ⌜ (k ≡ startCount (headingOf at c f b) (now (s .entry))) × (k ≤ c) ⌝ }
+    ensures { λ k. ⌜ Leading (headingOf at c f b) (now (s .entry)) k ⌝ }
 {
     let mut k = 0;
     while k < c {
@@ -88,7 +86,7 @@ fn count_starts(s: &[u16], at: usize, c: usize, f: usize, b: usize) -> usize
 // block behind it.
 fn bad_exits(s: &[u16], at: usize, c: usize, f: usize, b: usize, k: usize) -> bool
     requires { ⌜ Formed (headingOf at c f b) (now s) ⌝ }
-    requires { ⌜ badRecords (headingOf at c f b) (now s) ≡ false ⌝ }
+    requires { ⌜ badRecords (headingOf at c f b) (now s) k ≡ false ⌝ }
     requires { ⌜ (k ≡ startCount (headingOf at c f b) (now s)) × (k ≤ c) ⌝ }
     ensures { λ r. ⌜ r ≡ badExits (headingOf at c f b) (now (s .entry)) ⌝ }
 {
@@ -110,35 +108,6 @@ fn bad_exits(s: &[u16], at: usize, c: usize, f: usize, b: usize, k: usize) -> bo
     field(s, at, 3, k + 2, 0) == 2
 }
 
-// A target that is neither 0 nor one of the copies k + 1 to n, those that are no start copies.
-fn is_stray(k: usize, n: usize, t: usize) -> bool
-    requires { ⌜ k ≤ mostCopies ⌝ }
-    ensures { λ r. ⌜ r ≡ (not (eqb t 0) && outside (suc k) n t) ⌝ }
-{
-    if t == 0 {
-        return false;
-    }
-    is_outside(k + 1, n, t)
-}
-
-// One pass over the edges: a target is neither 0 nor one of the copies k + 1 to C, where k are start copies.
-fn bad_targets(s: &[u16], at: usize, c: usize, f: usize, b: usize, k: usize) -> bool
-    requires { ⌜ Formed (headingOf at c f b) (now s) ⌝ }
-    requires { ⌜ (k ≡ startCount (headingOf at c f b) (now s)) × (k ≤ c) ⌝ }
-    ensures { λ r. ⌜ r ≡ badTargetWords (headingOf at c f b) (now (s .entry)) ⌝ }
-{
-    let base = at + 3 * c;
-    let mut e = 1;
-    while e <= f {
-        let t = field(s, base, 2, e, 0);
-        if is_stray(k, c, t) {
-            return true;
-        }
-        e += 1;
-    }
-    false
-}
-
 // The entries are checked as a part of the sheet, beside the part that is the budgets; in the first version there is one, which is 1.
 fn bad_entries(s: &[u16], at: usize, c: usize, f: usize, b: usize, k: usize) -> bool
     requires { ⌜ Formed (headingOf at c f b) (now s) ⌝ }
@@ -155,20 +124,17 @@ fn bad_entries(s: &[u16], at: usize, c: usize, f: usize, b: usize, k: usize) -> 
     bad_entry_words(s, at, c, f, b, k, bs, &one)
 }
 
-// The clauses behind the header: the copies and the order of the edges, then the exit, the targets, and the entries.
+// The clauses behind the header: the copies and their edges, then the exit, then the entries.
 fn bad_behind(s: &[u16], at: usize, c: usize, f: usize, b: usize) -> bool
     requires { ⌜ Formed (headingOf at c f b) (now s) ⌝ }
     requires { ⌜ (leastWords ≤ length (now s)) × (heading (now s) .records ≤ length (now s)) × (1 ≤ budgetCount (now s)) ⌝ }
     ensures { λ r. ⌜ r ≡ badBehind (headingOf at c f b) (now (s .entry)) ⌝ }
 {
-    if bad_copies(s, at, c, f, b) {
-        return true;
-    }
     let k = count_starts(s, at, c, f, b);
-    if bad_exits(s, at, c, f, b, k) {
+    if bad_copies(s, at, c, f, b, k) {
         return true;
     }
-    if bad_targets(s, at, c, f, b, k) {
+    if bad_exits(s, at, c, f, b, k) {
         return true;
     }
     bad_entries(s, at, c, f, b, k)

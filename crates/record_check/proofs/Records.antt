@@ -1,4 +1,4 @@
--- One pass over the copies: a copy that is wrong by itself or behind the one before it, and the edge order.
+-- One pass over the copies: a copy that is wrong by itself or behind the one before it, and its edges.
 -- Rests on base Truth and Search, formats Rule11, copy_check BadCopy, Edges, specs Records.
 use mathlib.Core.Path.{_≡_, refl, sym, ap, _∙_}
 use mathlib.Core.Bool.{Bool, true, false, _||_, not, or-assoc, or-true}
@@ -16,12 +16,12 @@ use Rattle.base.proofs.Search as search
 use Rattle.base.proofs.Search.{Search}
 use Rattle.formats.specs.Limits.{mostBlocks}
 use Rattle.formats.specs.BoundedSheet.{Heading, blockAt, lowAt, firstAt, nextAt, copyAt}
-use Rattle.formats.specs.Rule11.{badBlocks, badLows, badCopyOrder, badEdgeOrder}
+use Rattle.formats.specs.Rule11.{badBlocks, badLows, badCopyOrder}
 use Rattle.copy_check.specs.BadCopy.{badCopy}
-use Rattle.record_check.specs.Records.{badRecords}
+use Rattle.record_check.specs.Records.{badEdges, badRecords}
 use Rattle.record_check.specs.Chains.{Consecutive}
 use Rattle.record_check.proofs.Edges as edges
-use Rattle.record_check.proofs.Edges.{Following}
+use Rattle.record_check.proofs.Edges.{stray, Following}
 
 -- a test that comes true only where the first does is left out
 spared : (a b z o : Bool) → (z ≡ true → a ≡ true) → (a || (b || (z || o))) ≡ (a || (b || o))
@@ -29,7 +29,7 @@ spared true b z o i = refl
 spared false b true o i = absurd (not-both (i refl) refl)
 spared false b false o i = refl
 
-module _ (h : Heading) (s : List ℕ) where
+module _ (h : Heading) (s : List ℕ) (k : ℕ) where
   abbrev n : ℕ
   n = h .copies
 
@@ -94,21 +94,21 @@ module _ (h : Heading) (s : List ℕ) where
       ∙ spared (badBlocks h s) (badLows h s) (unordered 1) (badCopyOrder h s) (first-unordered l)
 
   -- the clauses on the records, by what their parts say
-  records-are : 1 ≤ n → (p r : Bool) → any wrong (from 1 n) ≡ p → badEdgeOrder h s ≡ r → badRecords h s ≡ (p || r)
+  records-are : 1 ≤ n → (p r : Bool) → any wrong (from 1 n) ≡ p → badEdges h s k ≡ r → badRecords h s k ≡ (p || r)
   unfolding badRecords
   records-are l p r e g =
-      simp or-assoc at (ap (λ (b : Bool). b || badEdgeOrder h s) (sym (wrong-are l)))
+      simp or-assoc at (ap (λ (b : Bool). b || badEdges h s k) (sym (wrong-are l)))
       ∙ (λ i. e i || g i)
 
   -- THE LOOP is at the copy i, behind the copy (w, l); it has met the edges before e
   pub record Checking (i w l e : ℕ) : Type 0 where
     pub behind : copyOf w l ≡ copyBefore i
     pub search : Search (any wrong (from 1 n)) wrong n i
-    pub edges : Following h s i e
+    pub edges : Following h s k i e
 
   pub begin : Checking 1 0 0 1
   unfolding copyBefore
-  begin = record { behind = refl; search = search.begin refl refl; edges = edges.begin h s }
+  begin = record { behind = refl; search = search.begin refl refl; edges = edges.begin h s k }
 
   module _ {i w l e : ℕ} (S : Checking i w l e) where
     -- one copy, as its words were read
@@ -120,22 +120,22 @@ module _ (h : Heading) (s : List ℕ) where
       wrong-is : {x b : Bool} → x ≡ badCopy (h .largest) (copyOf w l) (copyOf v a) → x ≡ b → wrong i ≡ b
       wrong-is z y = (λ x. badCopy (h .largest) (sym (S .behind) x) (sym here x)) ∙ sym z ∙ y
 
-      pub bad-copy : {x : Bool} → x ≡ badCopy (h .largest) (copyOf w l) (copyOf v a) → x ≡ true → true ≡ badRecords h s
+      pub bad-copy : {x : Bool} → x ≡ badCopy (h .largest) (copyOf w l) (copyOf v a) → x ≡ true → true ≡ badRecords h s k
       bad-copy z y = sym (records-are (omega (arith, S .search .least)) true _ (sym (search.found (S .search) m (wrong-is z y))) refl)
 
       -- its chain
-      module _ {end : ℕ} (N : Consecutive (nextAt h s) (h .edges) first e end) where
-        pub bad-chain : end ≡ 0 → true ≡ badRecords h s
-        bad-chain z = sym (records-are (omega (arith, S .search .least)) _ true refl (edges.broken h s (S .edges) N m r z)
+      module _ {end : ℕ} (N : Consecutive (nextAt h s) (stray h s k) (h .edges) first e end) where
+        pub bad-chain : end ≡ 0 → true ≡ badRecords h s k
+        bad-chain z = sym (records-are (omega (arith, S .search .least)) _ true refl (edges.broken h s k (S .edges) N m r z)
             ∙ or-true (any wrong (from 1 n)))
 
         pub goes-on : {x : Bool} → x ≡ badCopy (h .largest) (copyOf w l) (copyOf v a) → x ≡ false → (end ≡ 0 → ⊥) → Checking (i + 1) v a end
         goes-on z y u = record {
           behind = here ∙ next-before i (S .search .least);
           search = search.onward (S .search) m (wrong-is z y);
-          edges = edges.onward h s (S .edges) N m r u;
+          edges = edges.onward h s k (S .edges) N m r u;
         }
 
     -- all copies are passed
-    pub all-passed : 1 ≤ n → n < i → not (eqb e (h .edges + 1)) ≡ badRecords h s
-    all-passed l m = sym (records-are l false _ (sym (search.none (S .search) m)) (edges.all-done h s (S .edges) m))
+    pub all-passed : 1 ≤ n → n < i → not (eqb e (h .edges + 1)) ≡ badRecords h s k
+    all-passed l m = sym (records-are l false _ (sym (search.none (S .search) m)) (edges.all-done h s k (S .edges) m))

@@ -1,6 +1,6 @@
 -- What is wrong with the copies and their chains.
 -- Rests on base, formats.
--- the clauses on the copies and the order of the edges: badRecords
+-- the clauses on the copies and the edges: isStray, badEdges, badRecords
 pub mod Records
 -- chains whose edges are consecutive numbers
 pub mod Chains

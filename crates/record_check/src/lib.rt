@@ -4,20 +4,42 @@ ghost use mathlib.Core.Path.{_≡_};
 ghost use Prim.Native.Nat.{suc, _+_, _*_, _≤_};
 ghost use lib.ListN.{length};
 ghost use Rattle.formats.specs.Limits.{mostCopies, mostBoundedEdges};
-ghost use Rattle.formats.specs.Words.{nextFrom};
+ghost use Rattle.formats.specs.Words.{nextFrom, targetFrom};
 ghost use Rattle.formats.specs.BoundedSheet.{headingOf};
 ghost use Rattle.formats.specs.Rule11.{Formed};
-ghost use Rattle.record_check.specs.Records.{badRecords};
+ghost use Rattle.record_check.specs.Records.{isStray, badRecords};
 ghost use Rattle.record_check.specs.Chains.{Consecutive};
 use copy_check::is_bad_copy;
 use words::field;
+use words::is_outside;
 use words::word_at;
 
-// Follows the chain from `first` on, whose edges are to be `due`, `due` + 1, ..: the number behind its last edge, 0 where it has others.
-fn chain_end(s: &[u16], base: usize, m: usize, first: usize, due: usize) -> usize
+// A target that is neither 0 nor one of the copies k + 1 to n, those that are no start copies.
+fn is_stray(k: usize, n: usize, t: usize) -> bool
+    requires { ⌜ k ≤ mostCopies ⌝ }
+    ensures { λ r. ⌜ r ≡ isStray k n t ⌝ }
+{
+    if t == 0 {
+        return false;
+    }
+    is_outside(k + 1, n, t)
+}
+
+// Follows the chain from `first` on, whose edges are to be `due`, `due` + 1, .., with targets 0 or k + 1 to n: the number behind its last edge,
+// 0 where it has others.
+fn chain_end(
+    s: &[u16],
+    base: usize,
+    m: usize,
+    first: usize,
+    due: usize,
+    k: usize,
+    n: usize,
+) -> usize
     requires { ⌜ base + 2 * m ≤ length (now s) ⌝ }
     requires { ⌜ (1 ≤ due) × (due ≤ suc m) × (m ≤ mostBoundedEdges) ⌝ }
-    ensures { λ r. ⌜ Consecutive (nextFrom (now (s .entry)) base) m first due r ⌝ }
+    requires { ⌜ k ≤ mostCopies ⌝ }
+    ensures { λ r. ⌜ Consecutive (nextFrom (now (s .entry)) base) (λ e. isStray k n (targetFrom (now (s .entry)) base e)) m first due r ⌝ }
 {
     let mut x = first;
     let mut e = due;
@@ -28,6 +50,10 @@ fn chain_end(s: &[u16], base: usize, m: usize, first: usize, due: usize) -> usiz
         if x != e {
             return 0;
         }
+        let t = field(s, base, 2, e, 0);
+        if is_stray(k, n, t) {
+            return 0;
+        }
         x = field(s, base, 2, e, 1);
         e += 1;
     }
@@ -35,10 +61,10 @@ fn chain_end(s: &[u16], base: usize, m: usize, first: usize, due: usize) -> usiz
 }
 
 // One pass over the copies, of which copy i has the words from the word p on: a bad copy, or chains that do not meet the edges 1 to F in this
-// order.
-pub fn bad_copies(s: &[u16], at: usize, c: usize, f: usize, b: usize) -> bool
-    requires { ⌜ Formed (headingOf at c f b) (now s) ⌝ }
-    ensures { λ r. ⌜ r ≡ badRecords (headingOf at c f b) (now (s .entry)) ⌝ }
+// order, with targets 0 or k + 1 to C.
+pub fn bad_copies(s: &[u16], at: usize, c: usize, f: usize, b: usize, k: usize) -> bool
+    requires { ⌜ Formed (headingOf at c f b) (now s) × (k ≤ c) ⌝ }
+    ensures { λ r. ⌜ r ≡ badRecords (headingOf at c f b) (now (s .entry)) k ⌝ }
 {
     let base = at + 3 * c;
     let mut w = 0;
@@ -53,7 +79,7 @@ pub fn bad_copies(s: &[u16], at: usize, c: usize, f: usize, b: usize) -> bool
         if is_bad_copy(b, w, l, v, a) {
             return true;
         }
-        let end = chain_end(s, base, f, first, e);
+        let end = chain_end(s, base, f, first, e, k, c);
         if end == 0 {
             return true;
         }
