@@ -1,6 +1,6 @@
 -- Rule 11 in its parts, as functions that return early find them.
--- Rests on base Numbers, Orders and Truth, formats Budgets, Headings and RuleRead, record_check Records, entry_check Entries, specs Form, Behind and Starts, Starts.
-use mathlib.Core.Path.{_≡_, refl, sym, ap, subst, _∙_}
+-- Rests on base Numbers, Orders and Truth, formats Budgets, Headings and RuleRead, record_check Records, entry_check Entries, specs, Starts.
+use mathlib.Core.Path.{_≡_, refl, sym, ap, _∙_}
 use mathlib.Core.Bool.{Bool, true, false, _||_, not, or-assoc, or-false, or-true}
 use mathlib.Core.List.{List, [], _∷_, map}
 use Prim.Native.Nat.{ℕ, _+_, _*_, _≤_, _<_}

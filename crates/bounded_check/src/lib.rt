@@ -2,7 +2,7 @@
 // Rests on words, headers, budgets, record_check, entry_check; the promise is an equation with formats Rule11.
 ghost use mathlib.Core.Path.{_≡_};
 ghost use mathlib.Core.Bool.{false, _||_};
-ghost use Prim.Native.Nat.{suc, _+_, _*_, _≤_, _<_};
+ghost use Prim.Native.Nat.{_+_, _*_, _≤_, _<_};
 ghost use lib.ListN.{length};
 ghost use Rattle.base.specs.Lists.{from};
 ghost use Rattle.base.specs.Checks.{outside};

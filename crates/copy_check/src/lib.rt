@@ -1,8 +1,6 @@
 // One copy of a bounded sheet, by its numbers: wrong by itself or behind the copy before it.
 // Rests on words; what is wrong with a copy is said by specs BadCopy.
 ghost use mathlib.Core.Path.{_≡_};
-ghost use mathlib.Core.Bool.{_&&_, not};
-ghost use lib.Dec.{eqb};
 ghost use Rattle.base.specs.Copy.{copyOf, before};
 ghost use Rattle.copy_check.specs.BadCopy.{badCopy};
 use words::MOST_BLOCKS;

@@ -1,7 +1,7 @@
 -- The copy behind the start copies: its block, its low, its chain; then the block of the copy behind it.
 -- Rests on Exit.
 use borrow.Author.Needs.{needs}
-use mathlib.Core.Path.{_≡_, sym, _∙_}
+use mathlib.Core.Path.{sym, _∙_}
 use native.Mathlib.Omega.{arith}
 use Rattle.bounded_check.proofs.Exit.{starts-alone, other-block, exit-low, exit-chain, one-exit, second-tells}
 use Rattle.bounded_check.proofs.bad_exits.Statement.{statement}

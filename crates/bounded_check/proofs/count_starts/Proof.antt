@@ -1,7 +1,7 @@
 -- The copies of block 1 are passed one by one; the first copy of another block ends them.
 -- Rests on Starts.
 use borrow.Author.Needs.{needs}
-use mathlib.Core.Path.{_≡_, sym, _∙_}
+use mathlib.Core.Path.{_≡_, _∙_}
 use Prim.Native.Nat.{ℕ, _-_, _≤_}
 use native.Mathlib.Omega.{arith}
 use Rattle.formats.specs.BoundedSheet.{headingOf, blockAt}
