@@ -155,20 +155,6 @@ drop-here [] (suc k) x ys e = absurd (omega (arith, ap length e))
 drop-here (z ∷ xs) zero x ys e = (omega arith, cc, cc)
 drop-here (z ∷ xs) (suc k) x ys e = let r = drop-here xs k x ys e in (omega (arith, r .0), r .1, r .2)
 
--- two lists of one length have the same choices
-pub data Both {X Y : Type 0} : Option X → Option Y → Type 0 where
-  neither : Both none none
-  both : {x : X} {y : Y} → Both (some x) (some y)
-
-pub chosen-both : {X Y : Type 0} (xs : List X) (ys : List Y) → length xs ≡ length ys → (k : ℕ) → Both (chosen xs k) (chosen ys k)
-unfolding chosen
-chosen-both xs ys e zero = neither
-chosen-both [] [] e (suc k) = neither
-chosen-both [] (y ∷ ys) e (suc k) = absurd (omega arith)
-chosen-both (x ∷ xs) [] e (suc k) = absurd (omega arith)
-chosen-both (x ∷ xs) (y ∷ ys) e (suc zero) = both
-chosen-both (x ∷ xs) (y ∷ ys) e (suc (suc k)) = chosen-both xs ys (omega arith) (suc k)
-
 -- where one number alone passes, it alone is kept
 module _ (f : ℕ → Bool) (a : ℕ) where
   rejects : (x : ℕ) → (f x ≡ true → x ≡ a) → x ≢ a → f x ≡ false

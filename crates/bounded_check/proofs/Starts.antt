@@ -1,5 +1,5 @@
 -- The copies of block 1 are counted from the first copy on, up to the first copy of another block: in copies in order, these are all.
--- Rests on formats RuleRead, record_check Records, specs Starts.
+-- Rests on base Truth, formats RuleRead, record_check Records, specs Starts.
 use mathlib.Core.Path.{_≡_, refl, sym, ap, _∙_}
 use mathlib.Core.Bool.{Bool, true, false}
 use mathlib.Core.List.{List}

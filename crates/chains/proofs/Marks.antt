@@ -1,5 +1,5 @@
 -- Following records with a row of marks, from clear marks on, finds what the definition of unsound chains says.
--- Rests on base Truth and Search, formats Words, specs Marks.
+-- Rests on base Truth and Search, formats Words, specs Marks, Unmarked.
 use mathlib.Core.Path.{_≡_, refl, sym, ap, _∙_}
 use mathlib.Core.Bool.{Bool, true, false, _&&_, _||_, not, or-false, or-assoc, or-comm}
 use mathlib.Core.List.{List, [], _∷_}

@@ -1,4 +1,4 @@
-// The records of a bounded sheet, behind any header: one pass over the copies, each with its chain of edges.
+// The records of a bounded sheet, behind any header: one pass over the copies, each with its chain of edges and their targets.
 // Rests on words, copy_check; the promise is an equation with specs Records, over formats Rule11.
 ghost use mathlib.Core.Path.{_≡_};
 ghost use Prim.Native.Nat.{suc, _+_, _*_, _≤_};

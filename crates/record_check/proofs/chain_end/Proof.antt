@@ -1,5 +1,5 @@
--- One chain is followed; each turn meets the edge that is due, and the rest decides.
--- Rests on Edges.
+-- One chain is followed; each turn meets the edge that is due, and its target, and the rest decides.
+-- Rests on specs Records, Edges.
 use borrow.Author.Needs.{needs}
 use mathlib.Core.Path.{ap, _∙_}
 use Prim.Native.Nat.{_+_, _-_}
