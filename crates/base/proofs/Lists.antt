@@ -5,14 +5,14 @@ use mathlib.Core.Logic.{_≢_, _⊎_, inl, inr, ⊎-elim}
 use mathlib.Core.Bool.{Bool, true, false}
 use mathlib.Core.List.{List, [], _∷_, _++_, map, List·Memᴰ, List·Memᴰ·head, List·Memᴰ·tail, List·Memᴰ·not-nil, List·Memᴰ·cases-cons}
 use mathlib.Core.List.{Memᴰ·append-left, Memᴰ·append-right, List·Memᴰ·append-cases, Memᴰ·cast}
-use mathlib.Core.Option.{Option, some, none, Option·map, Option·none-ne-some, Option·some-injective}
+use mathlib.Core.Option.{some, Option·map, Option·none-ne-some, Option·some-injective}
 use Prim.Native.Nat.{ℕ, zero, suc, _+_, _-_, _≤_, _<_}
 use native.Mathlib.Omega.{arith}
 use native.Mathlib.Decide.{ℕ-discrete}
 use borrow.Author.Tests.{eqb-true, eq-eqb}
 use lib.Dec.{eqb}
-use lib.ListN.{length, take, drop, replicate, length-drop, length-replicate}
-use lib.Seq.{length-take-le}
+use lib.ListN.{length, take, drop, getD, replicate, length-drop, length-replicate}
+use lib.Seq.{length-take-le, drop-cons}
 use Rattle.base.specs.Lists.{each, keep, chosen, from, member}
 use Rattle.base.proofs.Truth.{else-false, not-both, any-i, any-e}
 
@@ -36,6 +36,13 @@ module _ {A B : Type 0} (f : A → List B) where
           → (a : A) × List·Memᴰ a (x ∷ xs) × List·Memᴰ b (f a)
       go below (inl k) = (x, List·Memᴰ·head refl, k)
       go below (inr k) = let r = below k in (r .0, List·Memᴰ·tail (r .1), r .2)
+
+  -- where g gives the same lists as f
+  pub each-same : (g : A → List B) (xs : List A) → ((x : A) → List·Memᴰ x xs → f x ≡ g x) → each f xs ≡ each g xs
+  unfolding each
+  each-same g [] h = refl
+  each-same g (x ∷ xs) h =
+      ap₂ (λ (ys zs : List B). ys ++ zs) (h x (List·Memᴰ·head refl)) (each-same g xs (λ y m. h y (List·Memᴰ·tail m)))
 
 -- what is kept
 module _ {A : Type 0} (f : A → Bool) where
@@ -108,6 +115,21 @@ pub from-length : (k a : ℕ) → length (from a k) ≡ k
 unfolding from
 from-length zero a = refl
 from-length (suc k) a = ap suc (from-length k (suc a))
+
+pub from-map : (f : ℕ → ℕ) (n a i : ℕ) → i < n → getD (map f (from a n)) i 0 ≡ f (a + i)
+unfolding from
+from-map f zero a i l = absurd (omega arith)
+from-map f (suc n) a zero l = let p : a + 0 ≡ a = omega arith in ap f (sym p)
+from-map f (suc n) a (suc i) l =
+    let p : suc a + i ≡ a + suc i = omega arith in from-map f n (suc a) i (omega arith) ∙ ap f p
+
+-- the lists of the numbers from the i-th on: that of the i-th, then the others'
+pub each-next : {B : Type 0} (f : ℕ → List B) (ws : List ℕ) (i x : ℕ) → i < length ws → x ≡ getD ws i 0
+    → each f (drop i ws) ≡ f x ++ each f (drop (i + 1) ws)
+unfolding each
+each-next f ws i x l e =
+    let p : i + 1 ≡ suc i = omega arith in
+    ap (each f) (drop-cons ws i 0 l) ∙ ap₂ (λ (y n : ℕ). f y ++ each f (drop n ws)) (sym e) (sym p)
 
 -- THE K-TH OF A LIST
 

@@ -1,10 +1,10 @@
 -- what is written so far, then the rest, is the whole: wrote-then; due-start, due-room, due-step, due-end
 pub mod Due
+-- what is written of the words of a row, word by word: Items
+pub mod Items
 -- decimal digits, and how many there are: decimal-one, decimal-more, digits-4
 pub mod Decimals
 -- how long a number behind a space is, and a list of parts: spaced-3, .., each-room
 pub mod Room
 -- a line of numbers, part by part: numbers-line
 pub mod NumberLine
--- words as numbers behind spaces, one more at a time: numbers-next
-pub mod Numbers

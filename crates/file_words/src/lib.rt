@@ -9,7 +9,7 @@ use words::MOST_BLOCKS;
 use words::MOST_EDGES;
 
 // The longest header that words can say: four of them, and as many budgets as the fourth can count.
-const LONGEST_HEADER: usize = 4 + 65535;
+pub const LONGEST_HEADER: usize = 4 + 65535;
 
 // One word more than the longest graph sheet that 3 lets pass has: a longer file is answered by as many of its words (proofs LongFile).
 pub const LONGER_SHEET: usize = LONGEST_HEADER + 2 * MOST_BLOCKS + 2 * MOST_EDGES + 1;

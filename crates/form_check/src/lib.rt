@@ -16,7 +16,7 @@ use words::MOST_EDGES;
 use words::is_either_outside;
 
 // Condition 2: N or E outside its limits.
-fn bad_counts(n: usize, m: usize) -> bool
+pub fn bad_counts(n: usize, m: usize) -> bool
     ensures { λ r. ⌜ r ≡ (outside leastBlocks mostBlocks n || outside leastEdges mostEdges m) ⌝ }
 {
     is_either_outside(LEAST_BLOCKS, MOST_BLOCKS, n, LEAST_EDGES, MOST_EDGES, m)

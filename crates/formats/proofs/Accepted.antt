@@ -18,7 +18,7 @@ use Rattle.formats.specs.Limits.{leastWords, leastBlocks, mostBlocks, le
 use Rattle.formats.specs.Versions.{budgetsAt, budgetCount, budgetsIn, largestIn, Claimed}
 use Rattle.formats.specs.GraphSheet.{Header, header, sheetLength, costWord, firstWord, targetWord, nextWord, chain, met, successors}
 use Rattle.formats.specs.GraphSheet.{short, badCounts, badLength, costFits, badCosts, badTargets, badChains, exitChain}
-use Rattle.formats.specs.GraphSheet.{sheetOrder, sheetRefusal, successorCount, Formed, Sound}
+use Rattle.formats.specs.GraphSheet.{sheetOrder, sheetRefusal, successorCount, Recorded, Formed, Sound}
 use Rattle.formats.proofs.Chains.{follow-above, chain-length-is, follow-ends}
 use Rattle.formats.proofs.SoundChains.{record-inside, record-short, all-short}
 use Rattle.formats.proofs.Budgets.{graph-records, claimed, largest-small}
@@ -36,6 +36,10 @@ formed h w c l = record {
   edges = inside-of leastEdges mostEdges (h .edges) (or-false (outside leastBlocks mostBlocks (h .blocks)) _ c .1);
   size = eqb-true (length w) (sheetLength h) (not-false _ l);
 }
+
+-- a row of its length has room for its records
+pub recorded : {h : Header} {w : List ℕ} → Formed h w → Recorded h w
+recorded {h} {w} F = record { blocks = F .blocks; edges = F .edges; room = omega (arith, F .size) }
 
 -- A SHEET THAT IS ACCEPTED: a header that is there, one to four rising budgets within their limit, and sound records
 pub record Accepted (w : List ℕ) : Type 0 where
@@ -78,6 +82,26 @@ accepted w e =
       };
     }
 
+-- 7: an edge of a chain is an edge of the sheet
+module _ (h : Header) (w : List ℕ) (sound : badChains h w ≡ false) where
+  above : (v e : ℕ) → List·Memᴰ e (chain h w v) → 1 ≤ e
+  unfolding chain
+  above v e m = follow-above (nextWord h w) (suc (h .edges)) (firstWord h w v) e m
+
+  pub chain-edge : (v e : ℕ) → 1 ≤ v → v ≤ h .blocks → List·Memᴰ e (chain h w v) → (1 ≤ e) × (e ≤ h .edges)
+  unfolding badChains met
+  chain-edge = record-inside (chain h w) (h .edges) (h .blocks) above sound
+
+  -- a chain has at most E edges
+  chain-short : (v : ℕ) → 1 ≤ v → v ≤ h .blocks → length (chain h w v) ≤ h .edges
+  unfolding badChains met
+  chain-short = record-short (chain h w) (h .edges) (h .blocks) above sound
+
+  -- and all chains together have
+  all-chains-short : length (met h w) ≤ h .edges
+  unfolding badChains met
+  all-chains-short = all-short (chain h w) (h .edges) (h .blocks) above sound
+
 module _ (h : Header) (w : List ℕ) (A : Sound h w) where
   -- 5
   cost-fits : (v : ℕ) → 1 ≤ v → v ≤ h .blocks → costFits v (costWord h w v) ≡ true
@@ -104,33 +128,22 @@ module _ (h : Header) (w : List ℕ) (A : Sound h w) where
       inside-of 2 (h .blocks) _ (any-false (λ e. outside 2 (h .blocks) (targetWord h w e)) (from 1 (h .edges)) (A .targets)
       (from-i (h .edges) 1 e p (omega arith)))
 
-  -- 7: an edge of a chain is an edge of the sheet
-  above : (v e : ℕ) → List·Memᴰ e (chain h w v) → 1 ≤ e
-  unfolding chain
-  above v e m = follow-above (nextWord h w) (suc (h .edges)) (firstWord h w v) e m
-
+  -- 7: an edge of a chain is an edge of the sheet, so a chain stays inside
   pub edge-inside : (v e : ℕ) → 1 ≤ v → v ≤ h .blocks → List·Memᴰ e (chain h w v) → (1 ≤ e) × (e ≤ h .edges)
-  unfolding badChains met
-  edge-inside = record-inside (chain h w) (h .edges) (h .blocks) above (A .chains)
+  edge-inside = chain-edge h w (A .chains)
 
-  -- so a chain stays inside
   pub chain-inside : {v e : ℕ} → 1 ≤ v → v ≤ h .blocks → e ≡ firstWord h w v → Inside (nextWord h w) (h .edges) (suc (h .edges)) e
   unfolding chain
   chain-inside {v} p q f = rw f (record { is-inside = λ x m. edge-inside v x p q m .1 })
 
-  -- and a chain has at most E edges, so that its fuel of E + 1 never cuts it
-  chain-short : (v : ℕ) → 1 ≤ v → v ≤ h .blocks → length (chain h w v) ≤ h .edges
-  unfolding badChains met
-  chain-short = record-short (chain h w) (h .edges) (h .blocks) above (A .chains)
-
   -- all chains together have at most E edges
   pub met-short : length (met h w) ≤ h .edges
-  unfolding badChains met
-  met-short = all-short (chain h w) (h .edges) (h .blocks) above (A .chains)
+  met-short = all-chains-short h w (A .chains)
 
+  -- and each has, so that its fuel of E + 1 never cuts it
   pub chain-ends : (v j : ℕ) → 1 ≤ v → v ≤ h .blocks → follow (nextWord h w) (suc (h .edges) + j) (firstWord h w v) ≡ chain h w v
   unfolding chain
-  chain-ends v j p q = follow-ends (nextWord h w) (suc (h .edges)) j (firstWord h w v) (omega (arith, chain-short v p q))
+  chain-ends v j p q = follow-ends (nextWord h w) (suc (h .edges)) j (firstWord h w v) (omega (arith, chain-short h w (A .chains) v p q))
 
   -- 8
   pub exit-ends : firstWord h w 2 ≡ 0

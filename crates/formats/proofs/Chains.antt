@@ -32,6 +32,16 @@ module _ (next : ℕ → ℕ) where
       let p : suc k + j ≡ suc (k + j) = omega arith in
       rw p (ap (λ (es : List ℕ). suc e ∷ es) (follow-ends k j (next (suc e)) (omega arith)))
 
+  -- next numbers that are the same at a chain's records give the same chain
+  pub follow-same : (other : ℕ → ℕ) (k e : ℕ) → ((x : ℕ) → List·Memᴰ x (follow next k e) → other x ≡ next x)
+      → follow other k e ≡ follow next k e
+  unfolding follow
+  follow-same other zero e h = refl
+  follow-same other (suc k) zero h = refl
+  follow-same other (suc k) (suc e) h =
+      ap (λ (es : List ℕ). suc e ∷ es)
+      (ap (follow other k) (h (suc e) (List·Memᴰ·head refl)) ∙ follow-same other k (next (suc e)) (λ x m. h x (List·Memᴰ·tail m)))
+
   -- TURN BY TURN, as code with the definition's own fuel goes down a chain
   pub follow-end : (k e : ℕ) → e ≡ 0 → follow next k e ≡ []
   unfolding follow

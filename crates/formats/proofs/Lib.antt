@@ -19,6 +19,8 @@ pub mod FirstVersion
 pub mod WordsFit
 -- the edge words handed out are those of the copy's chain: handed-out
 pub mod Parts
+-- words as a file's bytes: bytes-append, bytes-length
+pub mod Files
 -- the rows of refusals: pinned
 pub mod Rows
 -- the fold of a report's figures finds the greatest fraction, the earliest of equal ones: greatest, one-line

@@ -129,7 +129,13 @@ sheetOrder = lengthOrder ++ countsOrder ++ sizeOrder ++ budgetOrder ++ costOrder
 unfoldable pub sheetRefusal : List ℕ → ℕ
 sheetRefusal w = refused sheetOrder w
 
--- WHAT THEY LEAVE, behind any header: 2 and 3, a row of the length that the header says; 5 to 8, records that hold a graph
+-- WHAT THEY LEAVE, behind any header: 2, and a row in which the records have room; 2 and 3, a row of the length that the header says;
+-- 5 to 8, records that hold a graph
+pub record Recorded (h : Header) (w : List ℕ) : Type 0 where
+  pub blocks : (leastBlocks ≤ h .blocks) × (h .blocks ≤ mostBlocks)
+  pub edges : (leastEdges ≤ h .edges) × (h .edges ≤ mostEdges)
+  pub room : sheetLength h ≤ length w
+
 pub record Formed (h : Header) (w : List ℕ) : Type 0 where
   pub blocks : (leastBlocks ≤ h .blocks) × (h .blocks ≤ mostBlocks)
   pub edges : (leastEdges ≤ h .edges) × (h .edges ≤ mostEdges)

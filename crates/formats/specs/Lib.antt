@@ -11,7 +11,7 @@ pub mod GraphSheet
 pub mod BoundedSheet
 -- rule 11, and the edge words handed out
 pub mod Rule11
--- a file's bytes as words
+-- a file's bytes as words, and words as bytes
 pub mod File
 -- a listing's text
 pub mod Listing

@@ -56,3 +56,10 @@ wordLimit = 65536
 -- the sheets of a catalogue (document 02, K1: "up to 200 graph sheets")
 abbrev pub mostSheets : ℕ
 mostSheets = 200
+
+-- the records of an operation sheet, and the largest operation (document 02, K4: "at most 4,096")
+abbrev pub mostOperations : ℕ
+mostOperations = 4096
+
+abbrev pub mostOperation : ℕ
+mostOperation = 15

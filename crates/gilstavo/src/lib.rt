@@ -1,6 +1,6 @@
 // The public calls on numbers and slices, for C and Rust: a slice crosses as a pointer and a length, a walk as a row of four words.
-// Rests on graph_check, successors, weigh_sheet, build, bounded_check, reader, walk_words, both starts and both moves; the promises are theirs, and
-// Steps for walks.
+// Rests on graph_check, convert_operations, successors, weigh_sheet, build, bounded_check, reader, walk_words, both starts and both moves; the
+// promises are theirs, and Steps for walks.
 ghost use mathlib.Core.Path.{_≡_};
 ghost use Rattle.formats.specs.GraphSheet.{sheetRefusal, countSuccessors};
 ghost use Rattle.formats.specs.Rule11.{boundedRefusal, handOut};
@@ -9,6 +9,7 @@ ghost use Rattle.calls.specs.Moves.{startingWalk, guardedMove};
 ghost use Rattle.calls.specs.Starts.{guardedStart};
 ghost use Rattle.calls.specs.Weigh.{weighed};
 ghost use Rattle.calls.specs.Build.{built};
+ghost use Rattle.operation_sheet.specs.Operations.{convert};
 ghost use Rattle.reader.specs.Placed.{Placed};
 ghost use Rattle.walk_words.specs.WalkWords.{walkIn, walkWords};
 ghost use Rattle.gilstavo.specs.Steps.{guardedOutset, boundedOutset, guardedStep, boundedStep};
@@ -16,6 +17,7 @@ use bounded_check::check_bounded;
 use bounded_moves::bounded_move;
 use bounded_starts::start_bounded;
 use build::build;
+use convert_operations::convert_operations;
 use graph_check::check_graph;
 use guarded_moves::guarded_move;
 use guarded_starts::start_guarded;
@@ -32,6 +34,15 @@ pub extern "C" fn gilstavo_check_graph(sheet: &[u16]) -> u16
     ensures { λ r. ⌜ r ≡ sheetRefusal (now (sheet .entry)) ⌝ }
 {
     check_graph(sheet)
+}
+
+// 1 to 4, 41, 6 to 8, 42, 22, else 0; the graph sheet of an operation sheet in the first words of the output row.
+#[no_mangle]
+pub extern "C" fn gilstavo_convert_operations(sheet: &[u16], output: &mut [u16]) -> u16
+    ensures { λ r. ⌜ r ≡ convert (now (sheet .entry)) (now (output .entry)) .answer ⌝ }
+    ensures { λ _. ⌜ now (output .exit) ≡ convert (now (sheet .entry)) (now (output .entry)) .output ⌝ }
+{
+    convert_operations(sheet, output)
 }
 
 // 1 to 8, 33, else 0; the number of successors of a block.

@@ -2,7 +2,7 @@
 // Rests on words, headers, form_check, edge_check; the promise is an equation with formats GraphSheet.
 ghost use mathlib.Core.Path.{_≡_};
 ghost use Rattle.base.specs.Checks.{refused};
-ghost use Rattle.formats.specs.GraphSheet.{headerOf, costFits, badCosts, Formed};
+ghost use Rattle.formats.specs.GraphSheet.{headerOf, costFits, badCosts, Recorded};
 ghost use Rattle.formats.specs.GraphSheet.{sheetRefusal};
 ghost use Rattle.graph_check.specs.Headers.{edgeStage};
 use edge_check::bad_chains;
@@ -23,8 +23,8 @@ fn cost_fits(v: usize, c: usize) -> bool
 }
 
 // Condition 5: a block whose cost does not fit.
-fn bad_costs(s: &[u16], at: usize, n: usize, m: usize) -> bool
-    requires { ⌜ Formed (headerOf at n m) (now s) ⌝ }
+pub fn bad_costs(s: &[u16], at: usize, n: usize, m: usize) -> bool
+    requires { ⌜ Recorded (headerOf at n m) (now s) ⌝ }
     ensures { λ r. ⌜ r ≡ badCosts (headerOf at n m) (now (s .entry)) ⌝ }
 {
     let mut v = 1;
@@ -38,9 +38,9 @@ fn bad_costs(s: &[u16], at: usize, n: usize, m: usize) -> bool
     false
 }
 
-// Conditions 6 to 8 of a sheet that has its form.
+// Conditions 6 to 8 of a sheet whose records are there.
 pub fn edge_answer(s: &[u16], at: usize, n: usize, m: usize) -> u16
-    requires { ⌜ Formed (headerOf at n m) (now s) ⌝ }
+    requires { ⌜ Recorded (headerOf at n m) (now s) ⌝ }
     ensures { λ r. ⌜ r ≡ refused (edgeStage (headerOf at n m)) (now (s .entry)) ⌝ }
 {
     if bad_targets(s, at, n, m) {

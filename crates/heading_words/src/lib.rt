@@ -16,6 +16,7 @@ ghost use Rattle.chain_records.specs.Marked.{Marked};
 ghost use Rattle.heading_words.specs.Entries.{headingSize, entriesOf};
 use number::number_of;
 use put_words::put_one;
+use put_words::put_part;
 use put_words::put_three;
 use put_words::put_two;
 use words::word_at;
@@ -29,19 +30,6 @@ pub fn heading_size(second: bool, n: usize) -> usize
         return 4 + 2 * n;
     }
     3
-}
-
-// Puts the budgets from the word `at` on.
-fn put_budgets(out: &mut [u16], at: usize, bs: &[u16])
-    requires { ⌜ at + length (now bs) ≤ length (now out) ⌝ }
-    ensures { λ _. ⌜ now (out .exit) ≡ putWords (now (out .entry)) at (now (bs .entry)) ⌝ }
-{
-    let mut i = 0;
-    while i < bs.len() {
-        let c = word_at(bs, i);
-        put_one(out, at + i, c);
-        i += 1;
-    }
 }
 
 // Puts the entry of each budget, the number of its start copy or 0, from the word `at` on.
@@ -94,7 +82,7 @@ fn write_second(
     let n = bs.len();
     put_two(out, 0, 0, copies);
     put_two(out, 2, edges, n);
-    put_budgets(out, 4, bs);
+    put_part(out, 4, bs);
     put_entries(row, marks, numbers, out, 4 + n, bs, b);
 }
 

@@ -4,3 +4,5 @@
 pub mod More
 -- pieces, one after the other: pieces-held
 pub mod Pieces
+-- what a row holds says what the whole input says: kept-whole
+pub mod Whole

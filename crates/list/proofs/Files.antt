@@ -1,10 +1,9 @@
 -- The listing of a graph sheet by its answer, and of a whole file by its first words.
--- Rests on calls Program, front Read, kept Held, specs Whole.
-use mathlib.Core.Path.{_≡_, refl, sym, ap, ap₂, subst, _∙_}
+-- Rests on calls Program, front Read, kept Held and Whole, specs Whole.
+use mathlib.Core.Path.{_≡_, refl, sym, _∙_}
 use mathlib.Core.Bool.{Bool, true, false}
-use mathlib.Core.List.{List, [], _∷_}
+use mathlib.Core.List.{List}
 use Prim.Native.Nat.{ℕ, zero, suc, _<_}
-use native.Mathlib.Omega.{arith}
 use lib.ListN.{length, getD, take}
 use Rattle.base.specs.Checks.{refused}
 use Rattle.formats.specs.File.{wordsOf, oddBytes}
@@ -14,6 +13,7 @@ use Rattle.calls.specs.Program.{listingOrder, sheetListing, listing}
 use Rattle.file_words.specs.Longer.{longerFile}
 use Rattle.front.proofs.Read.{front-same}
 use Rattle.kept.specs.Held.{Held, holding}
+use Rattle.kept.proofs.Whole.{kept-whole}
 use Rattle.list.specs.Whole.{listingFrom}
 
 -- A GRAPH SHEET
@@ -52,14 +52,6 @@ listed-whole fs bytes = go (oddBytes fs) refl
     go false e = rw (e, listing, listingFrom) (front-same sheetListing same-listing fs bytes)
 
 -- and so does what is kept of it in a row for so much
-below : (n : ℕ) (bs : List ℕ) → ((i : ℕ) → getD bs i 0 < 256) → (i : ℕ) → getD (take n bs) i 0 < 256
-below zero bs f i = omega arith
-below (suc n) [] f i = omega arith
-below (suc n) (b ∷ bs) f zero = f zero
-below (suc n) (b ∷ bs) f (suc i) = below n bs (λ j. f (suc j)) i
-
 pub listed-kept : {xs row : List ℕ} {n : ℕ} {odd : Bool} → Held xs row (holding n odd) → length row ≡ longerFile
     → ((i : ℕ) → getD row i 0 < 256) → listingFrom (take n row) odd ≡ listing xs
-listed-kept {xs} {row} {n} H l bytes =
-    let front = H .bytes ∙ ap (λ (k : ℕ). take k xs) l in
-    ap₂ listingFrom front (H .odd) ∙ listed-whole xs (λ i. subst (λ (bs : List ℕ). getD bs i 0 < 256) front (below n row bytes i))
+listed-kept H l bytes = kept-whole listingFrom listing longerFile listed-whole H l bytes

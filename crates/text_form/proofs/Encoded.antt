@@ -1,11 +1,11 @@
 -- A text in two parts, read on; what is written at its end.
--- Rests on specs Reading, Bytes and Said.
+-- Rests on formats File, specs Reading and Said.
 use mathlib.Core.Path.{_≡_, refl, sym, ap}
 use mathlib.Core.List.{List, [], _∷_, _++_}
 use mathlib.Core.Option.{Option, some, none}
 use Prim.Native.Nat.{ℕ}
 use Rattle.text_form.specs.Reading.{Fault, Read, step, readOn, readWords}
-use Rattle.text_form.specs.Bytes.{bytesOf}
+use Rattle.formats.specs.File.{bytesOf}
 use Rattle.text_form.specs.Said.{saidText, encodedBytes, encodedSaid}
 
 -- reading on: a text in two parts

@@ -2,7 +2,7 @@
 pub mod Cases
 -- a text in two parts, and what is written at its end: read-append, encoded-bytes, encoded-told
 pub mod Encoded
--- words as bytes, and read back: bytes-append, bytes-length, words-of-bytes
+-- words as bytes, read back: words-of-bytes
 pub mod Files
 -- no text has more words than the most: words-few
 pub mod Few

@@ -1,5 +1,5 @@
 -- THE PROMISE OF THE TEXT: reading back what was written gives the words, with no fault; so encoding it gives the bytes of the words.
--- Rests on digits Decimals, decimal Writing, All, Layouts and Rooms, specs Reading, Bytes and Said, Cases, Encoded.
+-- Rests on formats File, digits Decimals, decimal Writing, All, Layouts and Rooms, specs Reading and Said, Cases, Encoded.
 use mathlib.Core.Path.{_≡_, refl, sym, ap, _∙_}
 use mathlib.Core.Bool.{false}
 use mathlib.Core.List.{List, [], _∷_, _++_, map, append-assoc, append-nil}
@@ -19,7 +19,7 @@ use Rattle.decimal.proofs.Layouts.{Filled, layout-total, layout-filled}
 use Rattle.decimal.proofs.Rooms.{Words}
 use Rattle.text_form.specs.Reading.{mostWords, next, Mode, between, within, Read, value, pending, outsideWord, inComment, flush}
 use Rattle.text_form.specs.Reading.{blank, full, lineByte, textByte, unlessFaulty, step, start, readOn, worded, ended, readWords}
-use Rattle.text_form.specs.Bytes.{bytesOf}
+use Rattle.formats.specs.File.{bytesOf}
 use Rattle.text_form.specs.Said.{encodedBytes, encodedSaid}
 use Rattle.text_form.proofs.Cases.{blank-last, digit-more, line-word, text-line, with-none, worded-words}
 use Rattle.text_form.proofs.Encoded.{read-append, encoded-bytes, encoded-quiet}

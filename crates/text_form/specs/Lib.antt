@@ -1,6 +1,4 @@
 -- decimal words in a text, and its first fault: Mode, What, Fault, Read, step, readWords
 pub mod Reading
--- words as a file's bytes: bytesOf
-pub mod Bytes
 -- what the encode program writes: saidText, encodedBytes, encodedSaid
 pub mod Said

@@ -1,5 +1,5 @@
 -- What the encode program writes: the bytes of a text's words on standard output, or one line that tells its fault on standard error.
--- Rests on base Checks, digits Spaced, formats Listing, Reading, Bytes.
+-- Rests on base Checks, digits Spaced, formats File and Listing, Reading.
 use mathlib.Core.Bool.{true, false}
 use mathlib.Core.List.{List, [], _∷_, _++_}
 use mathlib.Core.Option.{some, none}
@@ -8,7 +8,7 @@ use Rattle.base.specs.Checks.{outside}
 use Rattle.formats.specs.Listing.{decimal}
 use Rattle.digits.specs.Spaced.{spaced}
 use Rattle.text_form.specs.Reading.{What, other, large, many, nothing, Fault, readWords}
-use Rattle.text_form.specs.Bytes.{bytesOf}
+use Rattle.formats.specs.File.{bytesOf}
 
 -- `line`, `, column`, `: `
 abbrev pub lineName : List ℕ

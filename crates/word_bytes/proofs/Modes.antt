@@ -1,5 +1,5 @@
 -- Modes by their numbers: the word that is being read, its value, its bytes, and whether there is room for it.
--- Rests on base Lists and Truth, formats Limits, text_form Reading and Bytes, specs Modes.
+-- Rests on base Lists and Truth, formats Limits and File, text_form Reading, specs Modes.
 use mathlib.Core.Path.{_≡_, refl, sym, ap, _∙_}
 use mathlib.Core.Bool.{Bool, true, false, _&&_}
 use mathlib.Core.List.{List, []}
@@ -12,7 +12,7 @@ use Rattle.base.specs.Lists.{each}
 use Rattle.base.proofs.Truth.{same-test}
 use Rattle.formats.specs.Limits.{wordLimit}
 use Rattle.text_form.specs.Reading.{Mode, between, within, comment, value, pending, outsideWord, inComment}
-use Rattle.text_form.specs.Bytes.{wordBytes, bytesOf}
+use Rattle.formats.specs.File.{wordBytes, bytesOf}
 use Rattle.word_bytes.specs.Modes.{bytesSize, modeOf}
 
 pub mode-within : (m : ℕ) → m < wordLimit → modeOf m ≡ within m

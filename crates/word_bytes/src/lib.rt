@@ -1,16 +1,16 @@
 // The word that is being read: its value so far, whether there is room for it, and its bytes, written when it is done.
-// Rests on digits and text_form.
+// Rests on text_form and file_bytes.
 ghost use mathlib.Core.Path.{_≡_};
 ghost use mathlib.Core.Bool.{_&&_};
 ghost use Prim.Native.Nat.{_+_, _<_, _≤_};
 ghost use lib.Dec.{ltb};
 ghost use lib.ListN.{length};
 ghost use Rattle.formats.specs.Limits.{wordLimit};
+ghost use Rattle.formats.specs.File.{bytesOf};
 ghost use Rattle.digits.specs.Wrote.{Wrote};
 ghost use Rattle.text_form.specs.Reading.{outsideWord, value, pending};
-ghost use Rattle.text_form.specs.Bytes.{wordBytes, bytesOf};
 ghost use Rattle.word_bytes.specs.Modes.{bytesSize, modeOf};
-use digits::put_byte;
+use file_bytes::put_word;
 use text_form::MOST_WORDS;
 
 // The room that the bytes of the most words take.
@@ -26,15 +26,6 @@ pub const WORD_LIMIT: usize = 65536;
 pub const BETWEEN: usize = WORD_LIMIT;
 
 pub const COMMENT: usize = WORD_LIMIT + 1;
-
-// Writes a word, the lower byte first.
-fn put_word(out: &mut [u8], at: usize, n: usize) -> usize
-    requires { ⌜ (n < wordLimit) × (at + 2 ≤ length (now out)) ⌝ }
-    ensures { λ r. ⌜ Wrote (now (out .entry)) at (wordBytes n) (now (out .exit)) r ⌝ }
-{
-    let p = put_byte(out, at, (n % 256) as u8);
-    put_byte(out, p, (n / 256) as u8)
-}
 
 // Writes the word that was being read, if there is one.
 pub fn flush(out: &mut [u8], at: usize, mode: usize) -> usize

@@ -1,5 +1,5 @@
 -- One byte more: what each case of the reading leaves in the numbers and in the row.
--- Rests on formats Limits, digits Wrote and Due, text_form Reading, Bytes, Cases and Files, fault_line Faults, word_bytes Modes, specs Held.
+-- Rests on formats Limits, File and Files, digits Wrote and Due, text_form Reading and Cases, fault_line Faults, word_bytes Modes, specs Held.
 use mathlib.Core.Path.{_≡_, refl, sym, ap, subst, _∙_}
 use mathlib.Core.Bool.{false, _&&_}
 use mathlib.Core.List.{List, _++_}
@@ -14,9 +14,9 @@ use Rattle.formats.specs.Limits.{wordLimit}
 use Rattle.digits.specs.Wrote.{Wrote}
 use Rattle.digits.proofs.Due.{wrote-as, wrote-then}
 use Rattle.text_form.specs.Reading.{mostWords, mostCount, next, Mode, What, Fault, Read, pending, outsideWord, flush, faulty, full}
-use Rattle.text_form.specs.Bytes.{bytesOf}
+use Rattle.formats.specs.File.{bytesOf}
 use Rattle.text_form.proofs.Cases.{next-more, next-same}
-use Rattle.text_form.proofs.Files.{bytes-append, bytes-length}
+use Rattle.formats.proofs.Files.{bytes-append, bytes-length}
 use Rattle.fault_line.specs.Faults.{foundLimit, whatOf}
 use Rattle.word_bytes.specs.Modes.{bytesSize, modeOf}
 use Rattle.word_bytes.proofs.Modes.{same-order, pending-two, pending-no, outside-yes}

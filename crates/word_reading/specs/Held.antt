@@ -1,5 +1,5 @@
 -- What the numbers with which a text is read, and the row of bytes, hold of what has been read.
--- Rests on formats Limits, digits Wrote, text_form Reading and Bytes, fault_line Faults, word_bytes Modes.
+-- Rests on formats Limits and File, digits Wrote, text_form Reading, fault_line Faults, word_bytes Modes.
 use mathlib.Core.Path.{_≡_}
 use mathlib.Core.Bool.{true, false}
 use mathlib.Core.List.{List}
@@ -10,7 +10,7 @@ use lib.ListN.{length}
 use Rattle.formats.specs.Limits.{wordLimit}
 use Rattle.digits.specs.Wrote.{Wrote}
 use Rattle.text_form.specs.Reading.{mostCount, Fault, Read}
-use Rattle.text_form.specs.Bytes.{bytesOf}
+use Rattle.formats.specs.File.{bytesOf}
 use Rattle.fault_line.specs.Faults.{foundLimit, faultBy}
 use Rattle.word_bytes.specs.Modes.{bytesSize, modeOf}
 use Rattle.word_reading.specs.declared.Reading.{Reading}

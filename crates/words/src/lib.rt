@@ -39,6 +39,11 @@ pub const LEAST_BOUNDED_EDGES: usize = 1;
 
 pub const MOST_BOUNDED_EDGES: usize = 8192;
 
+// At most so many records of operations, and the largest operation.
+pub const MOST_OPERATIONS: usize = 4096;
+
+pub const MOST_OPERATION: usize = 15;
+
 // A number outside the limits lo to hi.
 pub fn is_outside(lo: usize, hi: usize, n: usize) -> bool
     ensures { λ r. ⌜ r ≡ outside lo hi n ⌝ }

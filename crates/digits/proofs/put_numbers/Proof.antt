@@ -1,50 +1,39 @@
 -- The words are written one by one, each behind a space.
--- Rests on Due, Numbers.
-use mathlib.Core.Path.{refl, ap}
-use Prim.Native.Nat.{_+_, _-_, _≤_}
-use native.Mathlib.Omega.{arith}
+-- Rests on Items.
+use Prim.Native.Nat.{_-_}
 use borrow.Author.Needs.{needs}
-use lib.ListN.{length, drop, drop-of-length-le}
-use Rattle.base.specs.Lists.{each}
+use lib.ListN.{length}
 use Rattle.digits.specs.Spaced.{spaced}
-use Rattle.digits.proofs.Due.{Due, due-start, due-as, due-room, due-step, due-end}
-use Rattle.digits.proofs.Numbers.{numbers-next}
+use Rattle.digits.proofs.Items.{Items, items-start, items-room, items-step, items-end}
 use Rattle.digits.proofs.put_numbers.Statement.{statement}
 use Rattle.digits.proofs.put_numbers.Tie as tie
 
 abbrev Inv-loop : tie.InvT-loop
-Inv-loop ws text₀ at p₀ i₀ text p i = (i ≤ length ws) × Due text₀ at (each spaced ws) text p (each spaced (drop i ws))
+Inv-loop ws out₀ at p₀ i₀ out p i = Items spaced ws out₀ at out p i
 
 abbrev μ-loop : tie.MeasureT-loop
-μ-loop ws text₀ at p₀ i₀ text p i = length ws - i
+μ-loop ws out₀ at p₀ i₀ out p i = length ws - i
 
 loop-holds : tie.Need-loop-holds Inv-loop μ-loop
-loop-holds c = let z = c .before .before in (omega arith, due-start (each spaced (z .args .ws .now)) _ (z .pre) refl)
+loop-holds c = items-start spaced _ (c .before .before .pre)
 
 put-number-requires : tie.Need-put-number-requires Inv-loop μ-loop
 put-number-requires c κs =
     let d = c .before .before in
-    let l = d .before .loop in
-    let ws = d .before .before .before .before .args .ws .now in
-    let due = due-as _ (l .inv .1) (numbers-next ws (l .i) (c .word-at .result) (d .loop-test .taken) (c .word-at .ensures .0)) in
-    due-room (spaced (c .word-at .result)) (each spaced (drop (l .i + 1) ws)) due
+    items-room spaced _ (d .before .loop .inv) (d .loop-test .taken) (c .word-at .ensures .0)
 
 loop-again : tie.Need-loop-again Inv-loop μ-loop
 loop-again c =
-    let d = c .before .before .before .before .before in
-    let l = d .before .loop in
-    let ws = d .before .before .before .before .args .ws .now in
-    let put = c .before .before .put-number in
-    let w = c .before .before .before .word-at in
-    let due = due-as _ (l .inv .1) (numbers-next ws (l .i) (w .result) (d .loop-test .taken) (w .ensures .0)) in
-    (omega arith, due-step (spaced (w .result)) (each spaced (drop (l .i + 1) ws)) due (put .ensures) (put .kept .0))
+    let put = c .before .before in
+    let read = put .before in
+    let d = read .before .before in
+    items-step spaced _ (d .before .loop .inv) (d .loop-test .taken) (read .word-at .ensures .0) (put .put-number .ensures) (put .put-number .kept .0)
 
 same-length : tie.Need-same-length Inv-loop μ-loop
-same-length c = c .before .loop .inv .1 .same
+same-length c = c .before .loop .inv .due .same
 
 returns : tie.Need-returns Inv-loop μ-loop
-unfolding each
-returns c = let l = c .before .loop in due-end (l .inv .1) (ap (each spaced) (drop-of-length-le _ (c .loop-test .left)))
+returns c = items-end spaced _ (c .before .loop .inv) (c .loop-test .left)
 
 pub put-numbers-spec : {M : Type 1} → statement M
 put-numbers-spec =

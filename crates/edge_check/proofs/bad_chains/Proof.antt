@@ -10,15 +10,15 @@ use Rattle.edge_check.proofs.bad_chains.Statement.{statement}
 use Rattle.edge_check.proofs.bad_chains.Tie as tie
 
 mul-base : tie.Need-mul-base
-mul-base c = omega (arith, c .before .pre .size)
+mul-base c = omega (arith, c .before .pre .room)
 
 add-base : tie.Need-add-base
-add-base c = omega (arith, c .before .pre .size)
+add-base c = omega (arith, c .before .pre .room)
 
 unsound-chains-requires : tie.Need-unsound-chains-requires
 unsound-chains-requires c κs =
     let F = c .before .before .pre in (
-      (omega arith, omega (arith, F .size), omega (arith, F .size)),
+      (omega arith, omega (arith, F .room), omega (arith, F .room)),
       (omega (arith, F .edges, zeros-room (suc mostEdges) (suc mostEdges) (omega arith)), zeros-clear (suc mostEdges)),
     )
 

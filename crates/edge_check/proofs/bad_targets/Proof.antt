@@ -18,10 +18,10 @@ abbrev μ-loop : tie.MeasureT-loop
 μ-loop s at n m base e₀ e = m + 1 - e
 
 mul-base : tie.Need-mul-base Inv-loop μ-loop
-mul-base c = omega (arith, c .before .pre .size)
+mul-base c = omega (arith, c .before .pre .room)
 
 add-base : tie.Need-add-base Inv-loop μ-loop
-add-base c = omega (arith, c .before .pre .size)
+add-base c = omega (arith, c .before .pre .room)
 
 loop-holds : tie.Need-loop-holds Inv-loop μ-loop
 loop-holds c = begin refl (targets-are _ _)
@@ -29,7 +29,7 @@ loop-holds c = begin refl (targets-are _ _)
 field-requires : tie.Need-field-requires Inv-loop μ-loop
 field-requires c κs =
     let l = c .before in
-    (l .loop .inv .least, omega arith, omega (arith, l .before .before .pre .size))
+    (l .loop .inv .least, omega arith, omega (arith, l .before .before .pre .room))
 
 returns : tie.Need-returns Inv-loop μ-loop
 returns c =

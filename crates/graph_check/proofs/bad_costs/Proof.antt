@@ -22,7 +22,7 @@ loop-holds c = begin refl (costs-are _ _)
 field-requires : tie.Need-field-requires Inv-loop μ-loop
 field-requires c κs =
     let l = c .before in
-    (l .loop .inv .least, omega arith, omega (arith, l .before .before .pre .size))
+    (l .loop .inv .least, omega arith, omega (arith, l .before .before .pre .room))
 
 returns : tie.Need-returns Inv-loop μ-loop
 returns c =

@@ -1,19 +1,20 @@
 -- The length first, then the form, then the costs, then the edges.
--- Rests on Conditions.
+-- Rests on formats Accepted, Conditions.
 use borrow.Author.Needs.{needs}
 use mathlib.Core.Path.{_≡_, sym, subst, _∙_}
 use Prim.Native.Nat.{ℕ}
 use mathlib.Core.List.{List, _++_}
 use Rattle.base.specs.Checks.{refused}
-use Rattle.formats.specs.GraphSheet.{Header, header, Formed, costOrder, edgeOrder, sheetRefusal}
+use Rattle.formats.specs.GraphSheet.{Header, header, Recorded, Formed, costOrder, edgeOrder, sheetRefusal}
+use Rattle.formats.proofs.Accepted.{recorded}
 use Rattle.form_check.proofs.Form.{formOrder}
 use Rattle.graph_check.proofs.Conditions.{short-refuses, form-refuses, form-passes, form-formed, cost-refuses, cost-passes}
 use Rattle.graph_check.proofs.check_graph.Statement.{statement}
 use Rattle.graph_check.proofs.check_graph.Tie as tie
 
--- the form that was found, behind the header that was read
-read-formed : {w : List ℕ} {h : Header} → h ≡ header w → Formed (header w) w → Formed h w
-read-formed {w} q F = subst (λ (x : Header). Formed x w) (sym q) F
+-- the records that the form leaves, behind the header that was read
+read-recorded : {w : List ℕ} {h : Header} → h ≡ header w → Formed (header w) w → Recorded h w
+read-recorded {w} q F = subst (λ (x : Header). Recorded x w) (sym q) (recorded F)
 
 returns : tie.Need-returns
 returns c = short-refuses _ (c .if1 .taken)
@@ -38,7 +39,7 @@ module _ (c : tie.Else2) where
   rest = form-passes _ (h .before .if1 .left) form
 
 bad-costs-requires : tie.Need-bad-costs-requires
-bad-costs-requires c κs = read-formed (h c .read-header .ensures .0) (form-formed _ (form c))
+bad-costs-requires c κs = read-recorded (h c .read-header .ensures .0) (form-formed _ (form c))
 
 returns-3 : tie.Need-returns-3
 returns-3 c =
@@ -46,7 +47,7 @@ returns-3 c =
     cost-refuses _ (h z .read-header .ensures .0) (sym (c .before .bad-costs .ensures) ∙ c .if3 .taken) ∙ sym (rest z)
 
 edge-answer-requires : tie.Need-edge-answer-requires
-edge-answer-requires c κs = let z = c .before .before in read-formed (h z .read-header .ensures .0) (form-formed _ (form z))
+edge-answer-requires c κs = let z = c .before .before in read-recorded (h z .read-header .ensures .0) (form-formed _ (form z))
 
 returns-4 : tie.Need-returns-4
 returns-4 c =

@@ -22,7 +22,7 @@ returns-2 c =
 field-requires : tie.Need-field-requires
 field-requires c κs =
     let F = c .before .before .before .before .before .pre in
-    (omega arith, omega arith, omega (arith, F .size, F .blocks))
+    (omega arith, omega arith, omega (arith, F .room, F .blocks))
 
 returns-3 : tie.Need-returns-3
 unfolding exitChain

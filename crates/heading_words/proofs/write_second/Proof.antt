@@ -15,7 +15,7 @@ put-entries-requires c κs =
     let t = e .before .before .before .before in
     let p = t .before .before .before .before .before .before .before .pre in
     let q = p .1 .1 .1 in
-    (p .0, (p .1 .0, (p .1 .1 .0, (q .0, omega (arith, q .1 .1, b .put-budgets .kept .0, e .put-two2 .kept .0, t .put-two .kept .0)))))
+    (p .0, (p .1 .0, (p .1 .1 .0, (q .0, omega (arith, q .1 .1, b .put-part .kept .0, e .put-two2 .kept .0, t .put-two .kept .0)))))
 
 returns : tie.Need-returns
 returns c =
@@ -26,7 +26,7 @@ returns c =
     let z = t .before .before .before .before .before .before .before .args in
     let row = z .row .now in
     put-second (z .out .now) (z .bs .now) (entriesOf (graphIn row) (blocksIn row) (z .b) (z .marks .now) (z .bs .now)) (z .copies) (z .edges)
-    (t .put-two .ensures) (f .put-two2 .ensures) (b .put-budgets .ensures) (e .put-entries .ensures)
+    (t .put-two .ensures) (f .put-two2 .ensures) (b .put-part .ensures) (e .put-entries .ensures)
 
 pub write-second-spec : {M : Type 1} → statement M
 write-second-spec =

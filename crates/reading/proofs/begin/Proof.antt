@@ -5,7 +5,7 @@ use native.Mathlib.Omega.{arith}
 use Rattle.base.specs.Lists.{each}
 use Rattle.digits.proofs.Due.{wrote-none}
 use Rattle.text_form.specs.Reading.{start}
-use Rattle.text_form.specs.Bytes.{bytesOf}
+use Rattle.formats.specs.File.{bytesOf}
 use Rattle.word_bytes.proofs.Modes.{mode-between}
 use Rattle.word_reading.proofs.Turns.{fault-none}
 use Rattle.reading.proofs.begin.Statement.{statement}

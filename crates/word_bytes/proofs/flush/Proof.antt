@@ -4,7 +4,7 @@ use mathlib.Core.Path.{sym, ap}
 use borrow.Author.Needs.{needs}
 use Rattle.base.specs.Lists.{each}
 use Rattle.digits.proofs.Due.{wrote-as, wrote-none}
-use Rattle.text_form.specs.Bytes.{bytesOf}
+use Rattle.formats.specs.File.{bytesOf}
 use Rattle.word_bytes.proofs.Modes.{pending-bytes, pending-none}
 use Rattle.word_bytes.proofs.flush.Statement.{statement}
 use Rattle.word_bytes.proofs.flush.Tie as tie

@@ -1,18 +1,18 @@
--- `heading_words::put_budgets`, word by word.
--- Rests on put_words Put.
+-- The part is put word by word.
+-- Rests on Put.
 use borrow.Author.Needs.{needs}
 use Prim.Native.Nat.{_-_}
 use native.Mathlib.Omega.{arith}
 use lib.ListN.{length}
 use Rattle.put_words.proofs.Put.{Putting, putting, putting-length, putting-on, put-all}
-use Rattle.heading_words.proofs.put_budgets.Statement.{statement}
-use Rattle.heading_words.proofs.put_budgets.Tie as tie
+use Rattle.put_words.proofs.put_part.Statement.{statement}
+use Rattle.put_words.proofs.put_part.Tie as tie
 
 abbrev Inv-loop : tie.InvT-loop
-Inv-loop out₀ at bs i₀ out i = Putting out₀ at bs i out
+Inv-loop out₀ at part i₀ out i = Putting out₀ at part i out
 
 abbrev μ-loop : tie.MeasureT-loop
-μ-loop out₀ at bs i₀ out i = length bs - i
+μ-loop out₀ at part i₀ out i = length part - i
 
 loop-holds : tie.Need-loop-holds Inv-loop μ-loop
 loop-holds c = putting (c .before .before .pre)
@@ -40,8 +40,8 @@ same-length c = putting-length (c .before .loop .inv)
 returns : tie.Need-returns Inv-loop μ-loop
 returns c = put-all (c .before .loop .inv) (omega (arith, c .loop-test .left))
 
-pub put-budgets-spec : {M : Type 1} → statement M
-put-budgets-spec =
+pub put-part-spec : {M : Type 1} → statement M
+put-part-spec =
     tie.close
     (tie.spec
     Inv-loop

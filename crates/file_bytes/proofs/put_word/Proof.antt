@@ -2,8 +2,8 @@
 -- Rests on digits Due.
 use borrow.Author.Needs.{needs}
 use Rattle.digits.proofs.Due.{wrote-then}
-use Rattle.word_bytes.proofs.put_word.Statement.{statement}
-use Rattle.word_bytes.proofs.put_word.Tie as tie
+use Rattle.file_bytes.proofs.put_word.Statement.{statement}
+use Rattle.file_bytes.proofs.put_word.Tie as tie
 
 returns : tie.Need-returns
 returns c = wrote-then (c .before .before .before .before .before .before .put-byte .ensures) (c .before .before .put-byte2 .ensures)

@@ -1,0 +1,2 @@
+-- an operation sheet by its answer, and a whole file by its first words: converted-kept
+pub mod Files
