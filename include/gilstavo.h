@@ -4,7 +4,8 @@
  *
  * A sheet is a row of 16-bit words; records are numbered from 1, and 0 ends a chain (docs/FORMATS.md has an example of each). Sheets have
  * two versions: in the first a sheet has one budget, in the second, whose first word is 0, 1 to 4 of them (k), strictly rising, each at
- * most 500. The records are the same, and a build makes a bounded sheet of the version of its graph sheet.
+ * most 500. The records are the same, and a build makes a bounded sheet of the version of its graph sheet, a conversion a graph sheet of the
+ * version of its operation sheet.
  *   Graph sheet:   N, E, B, or 0, N, E, k, k budgets; then N block records of cost, first edge; E edge records of target block, next edge.
  *   Bounded sheet: C, F, B, or 0, C, F, k, k budgets, k entries; then C copy records of block, low, first edge; F edge records of target
  *                  copy (0: the exception exit), next edge.
@@ -13,6 +14,9 @@
  *                  Second version: an entry is the copy of block 1 with which its budget starts, or 0 where nothing fits it; equal ones
  *                  are one copy. The copies of block 1 stand first, and the only copy of block 2, the exit, is behind them. The record of
  *                  copy i begins at word 1 + 2k + 3 * i.
+ *   Operation sheet: a graph sheet with the number of a first operation record (0 for none) in the place of each block's cost; then R, the
+ *                  number of operation records, and R records of operation, next record. Operations 0 to 7 take 1 cycle, 8 to 11 take 2,
+ *                  12 to 14 take 3, and 15 takes 8. Each record stands in one block's chain; blocks 1 and 2 have none, every other some.
  * Below, B is the budget of a sheet of the first version; in the second it is the largest budget, and for a walk the one that it has chosen.
  *
  * Every call returns, whatever the content and the length of what it is lent:
@@ -20,7 +24,8 @@
  *   0        accepted
  *   1        fewer than 3 words
  *   2        N or E outside its limit (N 2 to 128, E 1 to 512)
- *   3        not exactly 3 + 2N + 2E words, in the second version 4 + k + 2N + 2E; or a row that ends before its budgets
+ *   3        not exactly 3 + 2N + 2E words, in the second version 4 + k + 2N + 2E; or a row that ends before its budgets; of an operation
+ *            sheet not exactly 1 + 2R words more than these, or a row that ends before R
  *   4        a budget above 500, of all that the sheet names
  *   5        block 1 or 2 with a cost, or another block with cost 0
  *   6        a target that is 0, 1 or above N
@@ -30,11 +35,14 @@
  *   10       more than 4,096 copies or more than 8,192 edges
  *   11       a bounded sheet that breaks a rule of its format
  *   21       work area shorter than N * (B + 1) bytes
- *   22       output row shorter than 3 + 3C + 2F words, in the second version 4 + 2k + 3C + 2F
+ *   22       output row shorter than the sheet that would be written: of a build 3 + 3C + 2F words, in the second version 4 + 2k + 3C + 2F;
+ *            of a conversion 3 + 2N + 2E, in the second version 4 + k + 2N + 2E
  *   31       choice 0 or beyond the place's successors
  *   32       the walk has ended
  *   33       walk out of shape; a block, a copy or a budget number outside the sheet
  *   41       k outside 1 to 4, or budgets that do not rise strictly
+ *   42       R above 4,096; an operation above 15; following all chains of operations meets a record number above R, or a record twice, or
+ *            misses a record; block 1 or 2 with an operation, or another block with none
  *
  * Where several hold, the first in the order that stands at the call is answered; "1 to 8" stands for 1, 2, 3, 4, 41, 5, 6, 7, 8.
  *
@@ -53,11 +61,12 @@ extern "C" {
 #endif
 
 /* The version of these declarations, which changes with every change of a format, a number or a call. */
-#define GILSTAVO_VERSION 2
+#define GILSTAVO_VERSION 3
 
-/* A work area of so many bytes is never answered 21, an output row of so many words never 22. */
+/* A work area of so many bytes is never answered 21; an output row of so many words is never answered 22, of a build and of a conversion. */
 #define GILSTAVO_MOST_AREA 64128
 #define GILSTAVO_MOST_OUTPUT 28684
+#define GILSTAVO_MOST_GRAPH 1288
 
 /* A walk is four words: place, count, end, budget number (from 1; 1 for a sheet of the first version). Any other end is out of shape (33). */
 #define GILSTAVO_WALK_WORDS 4
@@ -74,6 +83,12 @@ uint16_t gilstavo_check_graph(const uint16_t *sheet, size_t sheet_words);
 
 /* The number of successors of a block: 1 to 8, 33, else 0. *count is the number; under a refusal it keeps its content. */
 uint16_t gilstavo_count_successors(const uint16_t *sheet, size_t sheet_words, uint16_t block, uint16_t *count);
+
+/* Converts an operation sheet to the graph sheet that it stands for: 1, 2, 3, 4, 41, 6, 7, 8, 42, 22, else 0 (never 5).
+ * Under 0 the first words of the output row are the graph sheet, 3 + 2N + 2E of them, in the second version 4 + k + 2N + 2E: the words
+ * before R with the sum of each block's cycles as its cost; it passes gilstavo_check_graph. The rest of the row keeps its content; under a
+ * refusal the whole row does. */
+uint16_t gilstavo_convert_operations(const uint16_t *sheet, size_t sheet_words, uint16_t *output, size_t output_words);
 
 /* Weighs a graph sheet: 1 to 8, 21, 9, else 0.
  * Under 1 to 8 and 21 the area keeps its content. Under 9 and 0 its byte at (block - 1) * (B + 1) + cost is 1 where that block has a

@@ -2,7 +2,7 @@
 // It rests on the wrapper's raw calls, and on the reference's random material and answers.
 
 use gilstavo::raw;
-use reference::random::{self, area_length, area_needed, bounded_words, graph_words, length_near, Random, Size};
+use reference::random::{self, area_length, area_needed, bounded_words, graph_words, length_near, operation_words, Random, Size};
 use reference::{copies_at, filled_words, End, Monitor, Walk};
 
 /// What is counted beside the differences.
@@ -13,6 +13,8 @@ pub struct Tally {
     /// How many of those are of the second version.
     pub built_second: usize,
     pub moves: usize,
+    /// How many operation sheets were converted.
+    pub converted: usize,
     pub differences: Vec<String>,
     /// How often each number was answered, by the library.
     pub answers: Vec<usize>,
@@ -20,7 +22,7 @@ pub struct Tally {
 
 impl Tally {
     pub fn new() -> Tally {
-        Tally { answers: vec![0; 42], ..Tally::default() }
+        Tally { answers: vec![0; 43], ..Tally::default() }
     }
 
     /// Notes one call: its answer, and whether everything agrees.
@@ -276,5 +278,31 @@ pub fn any_bounded(random: &mut Random) -> Vec<u16> {
         1..=5 => bounded_words(random, Size::Any, 60),
         6..=50 => bounded_words(random, Size::Small, 50),
         _ => bounded_words(random, Size::Tiny, 50),
+    }
+}
+
+/// An operation sheet of either version: sound, damaged, at the limits, or any words at all.
+pub fn any_operations(random: &mut Random) -> Vec<u16> {
+    match random.below(100) {
+        0 => any_words(random),
+        1..=10 => operation_words(random, Size::Any, 50),
+        11..=60 => operation_words(random, Size::Small, 50),
+        _ => operation_words(random, Size::Tiny, 50),
+    }
+}
+
+/// The conversion of an operation sheet into a row too short, exact or longer, with junk in it; a graph sheet that is written is checked.
+pub fn operation_case(random: &mut Random, tally: &mut Tally, sheet: &[u16]) {
+    let size = random::graph_row_length(random, sheet);
+    let mut output = junk_words(random, size);
+    let mut wanted = output.clone();
+    let answer = reference::convert_operations(sheet, &mut wanted);
+    let got = raw::convert_operations(sheet, &mut output);
+    tally.call("convert_operations", sheet, got, (got, &output), (answer, &wanted));
+    if got == 0 {
+        tally.converted += 1;
+        let graph = &output[..random::graph_length(sheet).min(output.len())];
+        let answer = raw::check_graph(graph);
+        tally.call("check_graph of a converted sheet", graph, answer, answer, 0);
     }
 }

@@ -1,4 +1,4 @@
-// compare SEED COUNT: so many random graphs, with their builds, walks and hostile sheets, given to the library and to the reference.
+// compare SEED COUNT: so many random graphs, with builds, walks and hostile sheets, and as many operation sheets, given to library and reference.
 // It rests on cases.rs; it prints what was run and every difference, and its status is 1 where there is one.
 
 use compare::cases::{self, Tally};
@@ -12,6 +12,8 @@ fn main() -> ExitCode {
         return ExitCode::from(2);
     };
     let mut random = Random::new(seed);
+    // Operation sheets have a generator of their own, so that they leave the graphs of a seed as they are.
+    let mut of_operations = Random::new(seed);
     let mut tally = Tally::new();
     for _ in 0..count {
         let sheet = cases::graph(&mut random);
@@ -24,13 +26,15 @@ fn main() -> ExitCode {
         let bounded = cases::any_bounded(&mut random);
         cases::bounded_case(&mut random, &mut tally, &bounded);
         cases::endless_case(&mut random, &mut tally, &sheet, &bounded);
+        let operations = cases::any_operations(&mut of_operations);
+        cases::operation_case(&mut of_operations, &mut tally, &operations);
         if tally.differences.len() > 20 {
             break;
         }
     }
     println!(
-        "graphs {count} seed {seed} calls {} built {}, {} of them of the second version, moves in lists {}",
-        tally.calls, tally.built, tally.built_second, tally.moves
+        "graphs {count} seed {seed} calls {} built {}, {} of them of the second version, moves in lists {}, operation sheets converted {}",
+        tally.calls, tally.built, tally.built_second, tally.moves, tally.converted
     );
     for (number, times) in tally.answers.iter().enumerate().filter(|(_, times)| **times > 0) {
         println!("answer {number}: {times}");

@@ -93,52 +93,77 @@ impl<'a> Sheet<'a> {
 
 /// 0 for an accepted graph sheet, else the first refusal in the order 1, 2, 3, 4, 41, 5, 6, 7, 8.
 pub fn check_graph(words: &[u16]) -> u16 {
+    accepted(words).err().unwrap_or(0)
+}
+
+fn accepted(words: &[u16]) -> Result<(), u16> {
+    // 3: not exactly so many words as the header says.
+    if words.len() != graph_length(words)? {
+        return Err(3);
+    }
+    check_budgets(words)?;
+    check_costs(words)?;
+    check_edges(words)
+}
+
+/// The words of a graph sheet with the header of this row: 3 + 2N + 2E, in the second version 4 + budgets + 2N + 2E. Refuses 1, 2, and 3
+/// for a row that ends before its budgets.
+pub(crate) fn graph_length(words: &[u16]) -> Result<usize, u16> {
     // 1: fewer than 3 words, in both versions.
     if words.len() < 3 {
-        return 1;
+        return Err(1);
     }
 
     // 2: N or E outside its limit.
     let (blocks, edges) = header::sizes(words);
     if blocks < 2 || blocks > 128 || edges < 1 || edges > 512 {
-        return 2;
+        return Err(2);
     }
 
-    // 3: not exactly 3 + 2N + 2E words, in the second version 4 + budgets + 2N + 2E; or a row that ends before its budgets.
-    let budgets = match header::budgets(words) {
-        Some(budgets) => budgets,
-        None => return 3,
-    };
+    let budgets = header::budgets(words).ok_or(3_u16)?;
     let header_words = if header::is_second(words) { 4 + budgets.len() } else { 3 };
-    if words.len() != header_words + 2 * blocks + 2 * edges {
-        return 3;
-    }
+    Ok(header_words + 2 * blocks + 2 * edges)
+}
 
+/// Refuses 4 and 41 of a row that has all its budgets.
+pub(crate) fn check_budgets(words: &[u16]) -> Result<(), u16> {
     // 4: a budget above 500, of all that the sheet names.
+    let budgets = header::budgets(words).unwrap_or_default();
     if budgets.iter().any(|budget| *budget > 500) {
-        return 4;
+        return Err(4);
     }
 
     // 41: a number of budgets outside 1 to 4, or budgets that do not rise strictly.
     if !header::are_few_and_rising(&budgets) {
-        return 41;
+        return Err(41);
     }
+    Ok(())
+}
 
+/// Refuses 5 of a row of a graph sheet's length.
+fn check_costs(words: &[u16]) -> Result<(), u16> {
     // 5: block 1 or 2 with a cost, or another block with cost 0.
     let sheet = Sheet::of(words);
-    for block in 1..=blocks {
+    for block in 1..=sheet.blocks {
         let trusted = block == 1 || block == 2;
         let free = sheet.cost(block) == 0;
         if trusted != free {
-            return 5;
+            return Err(5);
         }
     }
+    Ok(())
+}
+
+/// Refuses 6, 7 and 8 of a row of a graph sheet's length.
+pub(crate) fn check_edges(words: &[u16]) -> Result<(), u16> {
+    let (blocks, edges) = header::sizes(words);
+    let sheet = Sheet::of(words);
 
     // 6: a target that is 0, 1 or above N, in any edge record.
     for edge in 1..=edges {
         let target = sheet.target(edge);
         if target == 0 || target == 1 || target > blocks {
-            return 6;
+            return Err(6);
         }
     }
 
@@ -148,7 +173,7 @@ pub fn check_graph(words: &[u16]) -> u16 {
         let mut edge = sheet.first_edge(block);
         while edge != 0 {
             if edge > edges || met[edge] {
-                return 7;
+                return Err(7);
             }
             met[edge] = true;
             edge = sheet.next_edge(edge);
@@ -156,15 +181,15 @@ pub fn check_graph(words: &[u16]) -> u16 {
     }
     for edge in 1..=edges {
         if !met[edge] {
-            return 7;
+            return Err(7);
         }
     }
 
     // 8: the exit has a chain.
     if sheet.first_edge(2) != 0 {
-        return 8;
+        return Err(8);
     }
-    0
+    Ok(())
 }
 
 /// The answer and the number of successors of a block: 1 to 8 with 41, then 33 for a block outside 1..=N.

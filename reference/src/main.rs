@@ -1,11 +1,11 @@
-// The command line tool: a listing, a build, a report, random cases, corpora and catalogues of sheets, sheets from text; see USAGE.
+// The command line tool: a listing, a build, a report, a conversion, random cases, corpora and catalogues of sheets, sheets from text; see USAGE.
 // It rests on the library and its random material; it prints what the library answers.
 
 use reference::{catalogue, corpus};
-use reference::random::{self, area_length, bounded_words, graph_words, length_near, Random, Size};
+use reference::random::{self, area_length, bounded_words, graph_words, length_near, operation_words, Random, Size};
 use reference::{
-    bounded_move, build, check_bounded, check_graph, copies_at, edge_words, filled_words, guarded_move, listing, report, start_bounded,
-    start_guarded, successor_count, End, Monitor, Walk, LARGEST_AREA, LARGEST_OUTPUT,
+    bounded_move, build, check_bounded, check_graph, convert_operations, converted_file, copies_at, edge_words, filled_words, guarded_move,
+    listing, report, start_bounded, start_guarded, successor_count, End, Monitor, Walk, LARGEST_AREA, LARGEST_OUTPUT,
 };
 use std::io::{self, BufWriter, Read, Write};
 use std::process::ExitCode;
@@ -14,6 +14,7 @@ const USAGE: &str = "usage: reference listing < sheet
        reference build < decimal words
        reference encode < decimal words > sheet
        reference report < catalogue
+       reference operations < operation sheet > sheet
        reference corpus SEED COUNT > sheets
        reference second_corpus SEED COUNT > sheets
        reference worst > sheets
@@ -28,7 +29,7 @@ const USAGE: &str = "usage: reference listing < sheet
 type Kind = (&'static str, fn(&mut Random, Size) -> Vec<String>);
 
 /// The kinds in the order in which they take turns.
-const KINDS: [Kind; 11] = [
+const KINDS: [Kind; 12] = [
     ("graph", graph_case),
     ("count", count_case),
     ("build", build_case),
@@ -40,6 +41,7 @@ const KINDS: [Kind; 11] = [
     ("start_bounded", start_bounded_case),
     ("run", run_case),
     ("report", report_case),
+    ("convert", convert_case),
 ];
 
 fn main() -> ExitCode {
@@ -50,6 +52,7 @@ fn main() -> ExitCode {
         ["build"] => print_build(),
         ["encode"] => print_encoded(),
         ["report"] => print_report(),
+        ["operations"] => print_converted(),
         ["listings"] => print_listings(),
         ["worst"] => print_sheets(corpus::worst()),
         ["second_worst"] => print_sheets(corpus::second_worst()),
@@ -109,6 +112,12 @@ fn print_report() -> io::Result<()> {
     io::stdout().lock().write_all(report(&bytes).as_bytes())
 }
 
+fn print_converted() -> io::Result<()> {
+    let mut bytes = Vec::new();
+    io::stdin().lock().read_to_end(&mut bytes)?;
+    io::stdout().lock().write_all(&converted_file(&bytes))
+}
+
 /// The listing of each sheet of a corpus file.
 fn print_listings() -> io::Result<()> {
     let mut bytes = Vec::new();
@@ -149,14 +158,20 @@ fn print_build() -> io::Result<()> {
     Ok(())
 }
 
-/// The kinds take turns. Catalogues have a generator of their own, so that they leave the other cases of a seed as they are.
+/// The kinds take turns. Catalogues and operation sheets have a generator each, so that they leave the other cases of a seed as they are.
 fn print_cases(seed: u64, count: usize, size: Size, kinds: &[&Kind]) -> io::Result<()> {
     let mut random = Random::new(seed);
     let mut of_catalogues = Random::new(seed);
+    let mut of_operations = Random::new(seed);
     let mut out = BufWriter::new(io::stdout().lock());
     for index in 0..count {
         let (name, case) = kinds[index % kinds.len()];
-        let fields = case(if *name == "report" { &mut of_catalogues } else { &mut random }, size);
+        let generator = match *name {
+            "report" => &mut of_catalogues,
+            "convert" => &mut of_operations,
+            _ => &mut random,
+        };
+        let fields = case(generator, size);
         writeln!(out, "{}", fields.join("\t"))?;
     }
     out.flush()
@@ -361,4 +376,13 @@ fn run_case(random: &mut Random, size: Size) -> Vec<String> {
 fn report_case(random: &mut Random, size: Size) -> Vec<String> {
     let bytes = catalogue::short_catalogue(random, size);
     vec!["report".into(), row(&bytes), row(report(&bytes).as_bytes())]
+}
+
+/// The conversion of an operation sheet: the length of the output row, and what the call leaves.
+fn convert_case(random: &mut Random, size: Size) -> Vec<String> {
+    let words = operation_words(random, size, 40);
+    let mut output = vec![7; random::graph_row_length(random, &words)];
+    let length = output.len();
+    let answer = convert_operations(&words, &mut output);
+    vec!["convert".into(), row(&words), length.to_string(), answer.to_string(), row(&output)]
 }

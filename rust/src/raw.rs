@@ -8,6 +8,12 @@ mod exported {
     extern "C" {
         pub fn gilstavo_check_graph(sheet: *const u16, sheet_words: usize) -> u16;
         pub fn gilstavo_count_successors(sheet: *const u16, sheet_words: usize, block: u16, count: *mut u16) -> u16;
+        pub fn gilstavo_convert_operations(
+            sheet: *const u16,
+            sheet_words: usize,
+            output: *mut u16,
+            output_words: usize,
+        ) -> u16;
         pub fn gilstavo_weigh(sheet: *const u16, sheet_words: usize, area: *mut u8, area_bytes: usize) -> u16;
         pub fn gilstavo_build(
             sheet: *const u16,
@@ -53,6 +59,12 @@ pub fn check_graph(sheet: &[u16]) -> u16 {
 
 pub fn count_successors(sheet: &[u16], block: u16, count: &mut u16) -> u16 {
     unsafe { exported::gilstavo_count_successors(sheet.as_ptr(), sheet.len(), block, count) }
+}
+
+pub fn convert_operations(sheet: &[u16], output: &mut [u16]) -> u16 {
+    unsafe {
+        exported::gilstavo_convert_operations(sheet.as_ptr(), sheet.len(), output.as_mut_ptr(), output.len())
+    }
 }
 
 pub fn weigh(sheet: &[u16], area: &mut [u8]) -> u16 {

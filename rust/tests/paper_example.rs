@@ -1,8 +1,9 @@
-// The wrapper on the example of document 01, with one budget and with two: every call, accepted and refused.
+// The wrapper on the example of document 01, with one budget, with two, and with operations for costs: every call, accepted and refused.
 // It rests on the wrapper alone; the expected words are those of document 01, and for two budgets computed by hand.
 
 use gilstavo::{
-    build, check_bounded, check_graph, count_successors, edge_words, weigh, End, Refusal, Walk, MOST_AREA, MOST_OUTPUT,
+    build, check_bounded, check_graph, convert_operations, count_successors, edge_words, weigh, End, Refusal, Walk, MOST_AREA, MOST_GRAPH,
+    MOST_OUTPUT,
 };
 
 /// Costs 0, 0, 2, 1, 4, 1, 1, 5; successors 1: 3; 3: 4, 5; 4: 6; 5: 6; 6: 7, 8; 7: 2; 8: 2.
@@ -28,6 +29,19 @@ const TWO: [u16; 74] = [
     0, 12, 15, 2, 5, 9, 1, 2, 1, 5, 1, 1, 9, 2, 2, 0, 0, 3, 5, 3, 3, 9, 5, 4, 3, 7, 4, 7, 8, 5, 6, 9, 6, 2, 10, 6, 6, 12, 7, 1, 14, 8, 5,
     15, 4, 0, 5, 0, 6, 4, 0, 0, 7, 6, 8, 0, 9, 0, 10, 0, 9, 0, 11, 11, 0, 0, 11, 13, 12, 0, 3, 0, 3, 0,
 ];
+
+/// The first operation records of blocks 1 to 8, and the records: operation, next. Their sums are the costs of the example.
+const FIRSTS: [u16; 8] = [0, 0, 1, 2, 3, 5, 6, 9];
+const RECORDS: [u16; 18] = [8, 0, 3, 0, 12, 4, 7, 0, 0, 0, 5, 0, 11, 0, 1, 7, 10, 8];
+
+/// A graph sheet of the example's graph, whose blocks begin at this word, with these operations for its costs.
+fn with_operations(sheet: &[u16], blocks_at: usize) -> Vec<u16> {
+    let mut words = [sheet, &[9], &RECORDS].concat();
+    for (index, first) in FIRSTS.iter().enumerate() {
+        words[blocks_at + 2 * index] = *first;
+    }
+    words
+}
 
 fn walk(place: u16, count: u16, end: End, budget: u16) -> Walk {
     Walk { place, count, end, budget }
@@ -149,4 +163,43 @@ fn the_same_choices_under_two_budgets() {
         assert_eq!(guarded.guarded_move(&sheet, &mut area, 1), Err(Refusal(32)));
         assert_eq!(bounded.bounded_move(&TWO, 1), Err(Refusal(32)));
     }
+}
+
+#[test]
+fn operations_for_costs() {
+    let operations = with_operations(&example(9), 3);
+    let mut output = [7; MOST_GRAPH];
+    assert_eq!(convert_operations(&operations, &mut output), Ok(&example(9)[..]));
+    assert!(output[37..].iter().all(|word| *word == 7));
+    let two = with_operations(&with_two_budgets(5, 9), 6);
+    assert_eq!(convert_operations(&two, &mut output), Ok(&with_two_budgets(5, 9)[..]));
+    // The graph sheet is built as it stands in the row.
+    let mut row = [7; 37];
+    let sheet = convert_operations(&operations, &mut row).unwrap();
+    assert_eq!(check_graph(sheet), Ok(()));
+    assert_eq!(build(sheet, &mut [7; 80], &mut [9; 52]), Ok(&BOUNDED[..]));
+    // Refusals keep the row: a word too few, a budget above 500, an operation above 15, a block with none; a row too short comes last.
+    let mut output = [7; 37];
+    let mut refused = |words: &[u16], length: usize| {
+        let answer = convert_operations(words, &mut output[..length]).map(<[u16]>::len);
+        assert_eq!(output, [7; 37]);
+        answer
+    };
+    let changed = |place: usize, word: u16| {
+        let mut words = operations.clone();
+        words[place] = word;
+        words
+    };
+    assert_eq!(refused(&operations[..55], 37), Err(Refusal(3)));
+    assert_eq!(refused(&example(9), 37), Err(Refusal(3)));
+    assert_eq!(refused(&changed(2, 501), 37), Err(Refusal(4)));
+    assert_eq!(refused(&changed(19, 1), 37), Err(Refusal(6)));
+    assert_eq!(refused(&changed(38, 16), 37), Err(Refusal(42)));
+    assert_eq!(refused(&changed(7, 0), 36), Err(Refusal(42)));
+    assert_eq!(refused(&operations, 36), Err(Refusal(22)));
+    assert_eq!(refused(&operations, 0), Err(Refusal(22)));
+    assert_eq!(
+        Refusal(42).to_string(),
+        "refused 42: not at most 4,096 operations from 0 to 15, each in one chain, some for every block but 1 and 2"
+    );
 }

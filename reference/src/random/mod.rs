@@ -3,6 +3,7 @@
 
 mod bounded;
 mod graphs;
+mod operations;
 mod walks;
 
 pub use bounded::{bounded_words, built_words, damaged_bounded_sheet, damaged_second_bounded_sheet, sound_bounded_sheet, sound_second_bounded_sheet};
@@ -10,6 +11,7 @@ pub use graphs::{
     buildable_graph, buildable_second_graph, damaged_graph, damaged_second_graph, graph_near_the_limits, graph_words, many_budgets, second_graph,
     second_graph_near_the_limits, valid_graph,
 };
+pub use operations::{damaged_operations, graph_length, graph_row_length, operation_words, sound_operations};
 pub use walks::{bounded_choice, bounded_walk, budget_number, choices, graph_choice, graph_walk, inside_number};
 
 use crate::{check_graph, header};
