@@ -116,6 +116,7 @@ unfolding from
 from-length zero a = refl
 from-length (suc k) a = ap suc (from-length k (suc a))
 
+-- the i-th of their images, counted from 0
 pub from-map : (f : ℕ → ℕ) (n a i : ℕ) → i < n → getD (map f (from a n)) i 0 ≡ f (a + i)
 unfolding from
 from-map f zero a i l = absurd (omega arith)

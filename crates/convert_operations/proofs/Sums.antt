@@ -1,5 +1,5 @@
 -- The cycles of a block's chain, record by record: what is added up, and what is left.
--- Rests on base Truth and Lists, formats Chains, operation_sheet Operations and Conversion.
+-- Rests on base Truth and Lists, formats Chains, operation_sheet Operations, CycleSums and Conversion.
 use mathlib.Core.Path.{_≡_, sym, ap, subst, _∙_}
 use mathlib.Core.List.{List}
 use Prim.Native.Nat.{ℕ, suc, _+_, _-_, _≤_, _<_}
@@ -15,7 +15,8 @@ use Rattle.formats.specs.GraphSheet.{Header}
 use Rattle.formats.proofs.Chains.{follow-end, follow-out, follow-more, inside-here, inside-next}
 use Rattle.operation_sheet.specs.Operations.{cyclesOf, operationCount, operationsAt, operationWord, nextOperation, firstOperation, operationsOf, cycleSum}
 use Rattle.operation_sheet.specs.Operations.{largeOperation, mostCycles, Listed}
-use Rattle.operation_sheet.proofs.Conversion.{sumOf, operation-inside, sum-small}
+use Rattle.operation_sheet.proofs.CycleSums.{sumOf}
+use Rattle.operation_sheet.proofs.Conversion.{operation-inside, sum-small}
 
 -- a record's operation is one of the table
 pub operation-fits : {h : Header} {w : List ℕ} → Listed h w → (base e : ℕ) → base ≡ operationsAt h w → (1 ≤ e) × (e ≤ operationCount h w)

@@ -128,13 +128,10 @@ module _ (h : Header) (w : List ℕ) (A : Sound h w) where
       inside-of 2 (h .blocks) _ (any-false (λ e. outside 2 (h .blocks) (targetWord h w e)) (from 1 (h .edges)) (A .targets)
       (from-i (h .edges) 1 e p (omega arith)))
 
-  -- 7: an edge of a chain is an edge of the sheet, so a chain stays inside
-  pub edge-inside : (v e : ℕ) → 1 ≤ v → v ≤ h .blocks → List·Memᴰ e (chain h w v) → (1 ≤ e) × (e ≤ h .edges)
-  edge-inside = chain-edge h w (A .chains)
-
+  -- 7: a chain stays inside
   pub chain-inside : {v e : ℕ} → 1 ≤ v → v ≤ h .blocks → e ≡ firstWord h w v → Inside (nextWord h w) (h .edges) (suc (h .edges)) e
   unfolding chain
-  chain-inside {v} p q f = rw f (record { is-inside = λ x m. edge-inside v x p q m .1 })
+  chain-inside {v} p q f = rw f (record { is-inside = λ x m. chain-edge h w (A .chains) v x p q m .1 })
 
   -- all chains together have at most E edges
   pub met-short : length (met h w) ≤ h .edges
@@ -167,7 +164,7 @@ module _ (h : Header) (w : List ℕ) (A : Sound h w) where
   pub target-inside : (v t : ℕ) → List·Memᴰ t (successors h w v) → (2 ≤ t) × (t ≤ h .blocks)
   target-inside v t m =
       let r = edge v t m in
-      let i = edge-inside v (r .2 .0) (r .0) (r .1) (r .2 .1) in
+      let i = chain-edge h w (A .chains) v (r .2 .0) (r .0) (r .1) (r .2 .1) in
       subst (λ (x : ℕ). (2 ≤ x) × (x ≤ h .blocks)) (r .2 .2) (target-fits (r .2 .0) (i .0) (i .1))
 
   pub no-successor : successors h w 2 ≡ []

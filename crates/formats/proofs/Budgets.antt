@@ -29,7 +29,16 @@ graph-records w = go (isSecond w) refl
     go true e = rw (e, header, budgetsAt, budgetCount)
     go false e = rw (e, header, budgetsAt, budgetCount)
 
--- and so do a bounded sheet's, behind the entries
+-- so a header that names few budgets is short
+pub header-few : (w : List ℕ) → budgetCount w ≤ mostBudgets → header w .records ≤ 4 + mostBudgets
+unfolding header budgetCount
+header-few w few = go (isSecond w) refl
+  where
+    go : (v : Bool) → isSecond w ≡ v → header w .records ≤ 4 + mostBudgets
+    go true e = let n = rw (e, budgetCount) at few in rw (e, header) (omega arith)
+    go false e = rw (e, header) (omega arith)
+
+-- a bounded sheet's stand behind its budgets too, and behind the entries
 pub bounded-records : (s : List ℕ) → budgetsAt s + budgetCount s ≤ heading s .records
 unfolding heading budgetsAt budgetCount
 bounded-records s = go (isSecond s) refl

@@ -1,5 +1,5 @@
 -- The conditions 2 to 4 and 41 in their order, with 3 counting the operation records, by what they say of the header that was read.
--- Rests on base Orders, formats Budgets and Accepted, operation_sheet Operations, specs Counted.
+-- Rests on base Truth and Orders, formats Budgets, operation_sheet Operations, specs Counted.
 use mathlib.Core.Path.{_≡_, refl, sym, ap, subst, _∙_}
 use mathlib.Core.Bool.{Bool, true, false, not}
 use mathlib.Core.List.{List, _++_}

@@ -1,5 +1,5 @@
 -- The order of the conditions in its stages, and what 42 says of the records that were counted.
--- Rests on base Orders and Truth, formats GraphSheet, graph_check Headers, operation_sheet Operations, specs Counted, Size.
+-- Rests on base Orders, formats GraphSheet, graph_check Headers, operation_sheet Operations, specs Counted, Size.
 use mathlib.Core.Path.{_≡_, refl, sym, ap, subst, _∙_}
 use mathlib.Core.Bool.{Bool, true, false, _||_}
 use mathlib.Core.List.{List, _++_}

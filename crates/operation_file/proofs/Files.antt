@@ -11,11 +11,12 @@ use lib.ListN.{length, getD, take}
 use lib.Seq.{take-at}
 use Rattle.base.specs.Checks.{refused}
 use Rattle.base.proofs.Orders.{tested, none-left, over-stops, over-passes}
-use Rattle.formats.specs.Versions.{isSecond, budgetsAt, budgetCount}
+use Rattle.formats.specs.Limits.{mostBudgets}
+use Rattle.formats.specs.Versions.{budgetsAt, budgetCount}
 use Rattle.formats.specs.File.{wordsOf, bytesOf, oddBytes}
 use Rattle.formats.specs.Listing.{refusalOf}
 use Rattle.formats.specs.GraphSheet.{header, sheetLength, budgetOrder, edgeOrder}
-use Rattle.formats.proofs.Budgets.{graph-records, budgets-there, claimed}
+use Rattle.formats.proofs.Budgets.{graph-records, header-few, budgets-there, claimed}
 use Rattle.file_words.proofs.LongFile.{Longer, graph-most, first-words}
 use Rattle.kept.specs.Held.{Held, holding}
 use Rattle.kept.proofs.Whole.{kept-whole}
@@ -24,15 +25,6 @@ use Rattle.operation_sheet.specs.Operations.{convertedSheet, convert}
 use Rattle.operation_sheet.proofs.Conversion.{accepted, operation-numbered, conversion-keeps}
 use Rattle.operation_file.specs.Longer.{longerOperations, longerFile, mostGraph}
 use Rattle.operation_file.specs.Program.{sheetConverted, convertedFrom, converted}
-
--- the budgets stand behind at most four words
-place-most : (w : List ℕ) → budgetsAt w ≤ 4
-unfolding budgetsAt
-place-most w = go (isSecond w)
-  where
-    go : (b : Bool) → elim b [ true ↦ 4 | false ↦ 2 ] ≤ 4
-    go true = omega arith
-    go false = omega arith
 
 -- AN OPERATION SHEET
 module _ (w : List ℕ) where
@@ -52,8 +44,9 @@ module _ (w : List ℕ) where
       let r = graph-records w in
       let L = A .listed .recorded in
       let there : budgetsAt w + budgetCount w ≤ length w = omega (arith, r, L .room) in
-      let few = claimed w there (A .budget) (A .budgets) .count in
-      omega (arith, r, few, budgets-there w there, L .blocks, L .edges, place-most w)
+      let count = claimed w there (A .budget) (A .budgets) .count in
+      let few : budgetCount w ≤ mostBudgets = omega (arith, count, budgets-there w there) in
+      omega (arith, header-few w few, L .blocks, L .edges)
 
   -- so 22 is never the answer of a converter that is lent such a row
   module _ (out : List ℕ) (room : mostGraph ≤ length out) where

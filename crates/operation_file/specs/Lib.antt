@@ -2,3 +2,5 @@
 pub mod Longer
 -- what the operations program writes
 pub mod Program
+-- rows that pin it
+pub mod Refusals

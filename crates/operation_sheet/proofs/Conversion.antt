@@ -1,15 +1,14 @@
 -- WHAT THE CONVERTER IS FOR: the graph sheet that an accepted operation sheet says passes the check, and its costs are the sums of the listed
--- cycles. Rests on base Truth, Lists and Orders, formats Chains, SoundChains and Accepted, specs Operations, GraphWords.
+-- cycles. Rests on base Truth, Lists and Orders, formats Chains, SoundChains and Accepted, specs Operations, GraphWords, CycleSums, SameHeader.
 use mathlib.Core.Path.{_≡_, refl, sym, ap, ap₂, subst, _∙_}
 use mathlib.Core.Bool.{Bool, true, false, _||_, not}
-use mathlib.Core.List.{List, [], _∷_, _++_, map, List·Memᴰ}
-use Prim.Native.Nat.{ℕ, zero, suc, _+_, _*_, _≤_, _<_}
+use mathlib.Core.List.{List, _++_, List·Memᴰ}
+use Prim.Native.Nat.{ℕ, suc, _+_, _≤_, _<_}
 use native.Mathlib.Omega.{arith}
 use borrow.Author.Tests.{ltb-true, ltb-false, lt-ltb, le-ltb, eqb-true, eq-eqb, not-false}
 use lib.Dec.{ltb, eqb}
-use lib.ListN.{length, take, drop}
-use lib.Seq.{length-take-le, take-add, drop-at}
-use Rattle.base.specs.Lists.{any, all, from, sum, rising}
+use lib.ListN.{length, drop}
+use Rattle.base.specs.Lists.{any, all, from, rising}
 use Rattle.base.specs.Checks.{refused, outside, lentAfter}
 use Rattle.base.proofs.Truth.{or-false, any-false, none-any, all-e, all-i}
 use Rattle.base.proofs.Lists.{from-e, each-same}
@@ -17,62 +16,20 @@ use Rattle.base.proofs.Orders.{Numbered, unrefused, passed, none-left, inside-o
 use Rattle.formats.specs.Limits.{leastWords, leastBlocks, mostBlocks, leastEdges, mostEdges, leastBudgets, mostBudgets, mostBudget}
 use Rattle.formats.specs.Limits.{mostOperations}
 use Rattle.formats.specs.Words.{word, follow, unsound}
-use Rattle.formats.specs.Versions.{isSecond, budgetsAt, budgetCount, budgetsIn, badBudget, badBudgets}
-use Rattle.formats.specs.GraphSheet.{Header, headerOf, header, sheetLength, costWord, firstWord, targetWord, nextWord, chain, met}
+use Rattle.formats.specs.Versions.{budgetsIn, badBudget, badBudgets}
+use Rattle.formats.specs.GraphSheet.{Header, header, sheetLength, costWord, firstWord, targetWord, nextWord, chain, met}
 use Rattle.formats.specs.GraphSheet.{short, badCounts, badLength, costFits, badCosts, badTargets, badChains, exitChain}
 use Rattle.formats.specs.GraphSheet.{sheetOrder, sheetRefusal}
-use Rattle.formats.proofs.Chains.{follow-above, follow-same, follow-end}
+use Rattle.formats.proofs.Chains.{follow-above, follow-same}
 use Rattle.formats.proofs.SoundChains.{record-inside, record-short}
-use Rattle.formats.proofs.Budgets.{graph-records}
 use Rattle.formats.proofs.Accepted.{cost-word, chain-edge}
-use Rattle.operation_sheet.specs.Operations.{cyclesOf, operationCount, operationLength, operationWord, nextOperation, firstOperation}
+use Rattle.operation_sheet.specs.Operations.{operationCount, operationLength, operationWord, nextOperation, firstOperation}
 use Rattle.operation_sheet.specs.Operations.{operationsOf, cycleSum, wrongSize, manyRecords, largeOperation, badRecords, badOperations}
 use Rattle.operation_sheet.specs.Operations.{graphWords, convertedSheet, Converting, operationOrder, convertOrder, convert}
 use Rattle.operation_sheet.specs.Operations.{Listed, mostCycles, CycleSum, Converts, ConversionKeeps}
 use Rattle.operation_sheet.proofs.GraphWords.{words-length, header-word, header-words, cost-is, first-is, edge-is}
-
--- AN OPERATION takes at least 1 and at most 8 cycles
-pub cycles-fit : (k : ℕ) → (1 ≤ cyclesOf k) × (cyclesOf k ≤ 8)
-unfolding cyclesOf
-cycles-fit k = go (ltb k 8) (ltb k 12) (ltb k 15)
-  where
-    go : (a b c : Bool) → (1 ≤ elim a [ true ↦ 1 | false ↦ elim b [ true ↦ 2 | false ↦ elim c [ true ↦ 3 | false ↦ 8 ] ] ])
-        × (elim a [ true ↦ 1 | false ↦ elim b [ true ↦ 2 | false ↦ elim c [ true ↦ 3 | false ↦ 8 ] ] ] ≤ 8)
-    go true b c = (omega arith, omega arith)
-    go false true c = (omega arith, omega arith)
-    go false false true = (omega arith, omega arith)
-    go false false false = (omega arith, omega arith)
-
--- THE CYCLES OF A CHAIN
-module _ (operation : ℕ → ℕ) where
-  abbrev pub sumOf : List ℕ → ℕ
-  sumOf es = sum (map (λ e. cyclesOf (operation e)) es)
-
-  sum-most : (es : List ℕ) → sumOf es ≤ 8 * length es
-  unfolding sum
-  sum-most [] = omega arith
-  sum-most (e ∷ es) = omega (arith, cycles-fit (operation e), sum-most es)
-
-module _ (operation next : ℕ → ℕ) where
-  abbrev along : ℕ → ℕ → ℕ
-  along k e = sumOf operation (follow next k e)
-
-  -- a chain that has ended has the sum of its records' cycles
-  chain-sum : (k e : ℕ) → length (follow next k e) < k → CycleSum operation next e (along k e)
-  unfolding follow sum
-  chain-sum zero e l = absurd (omega arith)
-  chain-sum (suc k) zero l = CycleSum.none
-  chain-sum (suc k) (suc e) l = CycleSum.more (chain-sum k (next (suc e)) (omega arith))
-
-  -- nothing where it is empty, something else
-  sum-none : (k e : ℕ) → e ≡ 0 → along k e ≡ 0
-  unfolding sum
-  sum-none k e z = ap (sumOf operation) (follow-end next k e z)
-
-  sum-some : (k e : ℕ) → 1 ≤ e → 1 ≤ along (suc k) e
-  unfolding follow sum
-  sum-some k zero p = absurd (omega arith)
-  sum-some k (suc e) p = omega (arith, cycles-fit (operation (suc e)))
+use Rattle.operation_sheet.proofs.CycleSums.{sum-most, chain-sum, sum-none, sum-some}
+use Rattle.operation_sheet.proofs.SameHeader.{header-same, count-same, budgets-same}
 
 -- WHAT THE CONDITIONS LEAVE
 pub record Accepted (w : List ℕ) : Type 0 where
@@ -216,64 +173,6 @@ module _ {h : Header} {w : List ℕ} (L : Listed h w) where
   length-pass : badLength h g ≡ false
   unfolding badLength
   length-pass = ap not (eq-eqb (length g) (sheetLength h) (words-length h w room))
-
--- THE HEADER says the same where its words are the same
-module _ (w g : List ℕ) (same : (i : ℕ) → i < header w .records → word g i ≡ word w i) where
-  header-long : 2 < header w .records
-  unfolding header
-  header-long = go (isSecond w) refl
-    where
-      go : (b : Bool) → isSecond w ≡ b → 2 < header w .records
-      go true e = rw (e, header) (let r : 2 < 4 + word w 3 = omega arith in r)
-      go false e = rw (e, header) (let r : 2 < 3 = omega arith in r)
-
-  second-same : isSecond g ≡ isSecond w
-  unfolding isSecond
-  second-same = ap (λ (x : ℕ). eqb x 0) (same 0 (omega (arith, header-long)))
-
-  -- the fourth word too, in the second version
-  third-same : isSecond w ≡ true → word g 3 ≡ word w 3
-  unfolding header
-  third-same e = same 3 (rw (e, header) (let r : 3 < 4 + word w 3 = omega arith in r))
-
-  pub header-same : header g ≡ header w
-  unfolding header
-  header-same = go (isSecond w) refl
-    where
-      go : (b : Bool) → isSecond w ≡ b → header g ≡ header w
-      go true e =
-          let o : isSecond g ≡ true = second-same ∙ e in
-          rw (e, o, header)
-          (λ i. headerOf (4 + third-same e i) (same 1 (omega (arith, header-long)) i) (same 2 (omega (arith, header-long)) i))
-      go false e =
-          let o : isSecond g ≡ false = second-same ∙ e in
-          rw (e, o, header) (λ i. headerOf 3 (same 0 (omega (arith, header-long)) i) (same 1 (omega (arith, header-long)) i))
-
-  pub count-same : budgetCount g ≡ budgetCount w
-  unfolding budgetCount
-  count-same = go (isSecond w) refl
-    where
-      go : (b : Bool) → isSecond w ≡ b → budgetCount g ≡ budgetCount w
-      go true e = let o : isSecond g ≡ true = second-same ∙ e in rw (e, o, budgetCount) (third-same e)
-      go false e = let o : isSecond g ≡ false = second-same ∙ e in rw (e, o, budgetCount)
-
-  at-same : budgetsAt g ≡ budgetsAt w
-  unfolding budgetsAt
-  at-same = ap (λ (b : Bool). elim b [ true ↦ 4 | false ↦ 2 ]) second-same
-
-  -- and so do the budgets, where the words before the records are there
-  part : (a c : ℕ) (l : List ℕ) → a ≤ length l → take c (drop a l) ≡ drop a (take (a + c) l)
-  part a c l p = sym (ap (drop a) (take-add a c l) ∙ drop-at (take a l) (take c (drop a l)) a (length-take-le a l p))
-
-  pub budgets-same : header w .records ≤ length w → header w .records ≤ length g
-      → take (header w .records) g ≡ take (header w .records) w → budgetsIn g ≡ budgetsIn w
-  unfolding budgetsIn
-  budgets-same l m e =
-      let a = budgetsAt w in
-      let c = budgetCount w in
-      let r : header w .records ≡ a + c = graph-records w in
-      ap₂ (λ (c a : ℕ). take c (drop a g)) count-same at-same
-      ∙ part a c g (omega arith) ∙ ap (drop a) (ap (λ (k : ℕ). take k g) (sym r) ∙ e ∙ ap (λ (k : ℕ). take k w) r) ∙ sym (part a c w (omega arith))
 
 -- THE CONVERTED SHEET of one that the conditions leave
 module _ {w : List ℕ} (A : Accepted w) where

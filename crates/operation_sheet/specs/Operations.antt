@@ -1,5 +1,5 @@
 -- THE OPERATION SHEET, in both versions of the header (document 02, K4): the cycles of an operation, its records, condition 42, and the converter
--- as a call. Rests on base Lists and Checks, formats Limits, Words, GraphSheet.
+-- as a call. Rests on base Lists and Checks, formats Limits, Words, Versions, GraphSheet.
 use mathlib.Core.Path.{_≡_}
 use mathlib.Core.Bool.{Bool, true, false, _||_, not}
 use mathlib.Core.List.{List, [], _∷_, _++_, map}

@@ -9,10 +9,10 @@ use lib.ListN.{length}
 use Rattle.formats.specs.Limits.{mostBudgets}
 use Rattle.formats.specs.Versions.{isSecond, budgetCount}
 use Rattle.formats.specs.File.{oddBytes}
-use Rattle.formats.specs.GraphSheet.{header, sheetRefusal}
+use Rattle.formats.specs.GraphSheet.{sheetRefusal}
 use Rattle.formats.specs.BoundedSheet.{heading}
 use Rattle.formats.specs.Rule11.{boundedRefusal}
-use Rattle.formats.proofs.Budgets.{bounded-records, budgets-there}
+use Rattle.formats.proofs.Budgets.{bounded-records, header-few, budgets-there}
 use Rattle.formats.proofs.Accepted.{accepted}
 use Rattle.formats.proofs.RuleRead.{clauses}
 use Rattle.calls.specs.Program.{listing}
@@ -23,14 +23,6 @@ unfolding shown listing
 odd-as-listed bs e = rw (e, shown, listing)
 
 -- a header that names few budgets is short
-header-few : (w : List ℕ) → budgetCount w ≤ mostBudgets → header w .records ≤ 4 + mostBudgets
-unfolding header budgetCount
-header-few w few = go (isSecond w) refl
-  where
-    go : (v : Bool) → isSecond w ≡ v → header w .records ≤ 4 + mostBudgets
-    go true e = let n = rw (e, budgetCount) at few in rw (e, header) (omega arith)
-    go false e = rw (e, header) (omega arith)
-
 heading-few : (s : List ℕ) → budgetCount s ≤ mostBudgets → heading s .records ≤ 4 + 2 * mostBudgets
 unfolding heading budgetCount
 heading-few s few = go (isSecond s) refl

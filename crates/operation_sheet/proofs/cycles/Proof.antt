@@ -1,5 +1,5 @@
 -- The whole table is the list of the cycles of 0 to 15, computed once; so an entry is its operation's cycles.
--- Rests on base Lists, specs Operations.
+-- Rests on base Lists, specs Operations, CycleSums.
 use mathlib.Core.Path.{_≡_, refl, ap, _∙_}
 use mathlib.Core.List.{List, [], _∷_, map}
 use Prim.Native.Nat.{ℕ, _+_, _≤_, _<_}
@@ -9,7 +9,7 @@ use lib.ListN.{getD}
 use Rattle.base.specs.Lists.{from}
 use Rattle.base.proofs.Lists.{from-map}
 use Rattle.operation_sheet.specs.Operations.{cyclesOf}
-use Rattle.operation_sheet.proofs.Conversion.{cycles-fit}
+use Rattle.operation_sheet.proofs.CycleSums.{cycles-fit}
 use Rattle.operation_sheet.proofs.cycles.Statement.{statement}
 use Rattle.operation_sheet.proofs.cycles.Tie as tie
 
