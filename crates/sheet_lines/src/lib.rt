@@ -10,6 +10,10 @@ use digits::put_byte;
 use digits::put_decimal;
 use digits::put_named;
 use report_lines::put_three;
+use words::MOST_COPIES;
+
+// The room that a sheet's line takes.
+pub const LINE_SIZE: usize = 33 + 5 * MOST_COPIES;
 
 // Writes an accepted sheet's line, and answers its length: its place, N, C and F.
 pub fn write_figures(

@@ -1,0 +1,2 @@
+-- the room that a sheet's line takes: sheetRoom
+pub mod Room
