@@ -34,11 +34,11 @@ use Rattle.guarded_moves.proofs.Weighed.{area-is, late}
 -- BLOCK 1 looked up at b, in an area that is laid out for l
 module _ (w : List ℕ) (ok : sheetRefusal w ≡ 0) {after : List ℕ} {b l : ℕ} (T : Table (graph w) (header w .blocks) l after)
     (fits : (b ≤ l) × (l ≤ mostBudget)) where
-  pub start-cell : Within l 1 b × HasCell after (cellOf l 1 b)
+  pub start-cell : Within l 1 b × HasCell after (cellOf l 1 l)
   start-cell =
       let n = accepted w ok .sound .form .blocks in (
         record { budget = fits .1; block = omega arith; cost = fits .0 },
-        area-cell (header w .blocks) l 1 b after (omega arith) (omega arith) (fits .0) (T .room),
+        area-cell (header w .blocks) l 1 l after (omega arith) (omega arith) (omega arith) (T .room),
       )
 
   pub start-low : (k : ℕ) → b ≡ nth (budgetsIn w) k → (y : ℕ) → optionOf y ≡ lowIn l after 1 b

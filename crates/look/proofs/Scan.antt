@@ -1,13 +1,13 @@
--- The largest number that passes a test, number by number; as a loop from above finds it.
+-- The largest number that passes a test, as a loop from above finds it, and the smallest, as one from below does.
 -- Rests on base Lists, theory Completions.
 use mathlib.Core.Path.{_≡_, sym, ap, _∙_}
 use mathlib.Core.Bool.{Bool, true, false}
 use mathlib.Core.Option.{Option, none}
-use Prim.Native.Nat.{ℕ, zero, suc, _+_, _-_, _<_}
+use Prim.Native.Nat.{ℕ, zero, suc, _+_, _-_, _≤_, _<_}
 use native.Mathlib.Omega.{arith}
 use native.Mathlib.Numerals.{add-one}
 use Rattle.base.specs.Lists.{optionOf}
-use Rattle.theory.specs.Completions.{largest}
+use Rattle.theory.specs.Completions.{largest, smallest}
 use Rattle.theory.proofs.Completions.{largest-self}
 
 module _ (f : ℕ → Bool) where
@@ -48,3 +48,27 @@ module _ (f : ℕ → Bool) where
     pub miss : 0 < i → f (i - 1) ≡ false → Left r (i - 1)
     unfolding Left
     miss l e = let p : i ≡ suc (i - 1) = omega arith in h ∙ ap under p ∙ under-miss (i - 1) e
+
+  -- THE LOOP at c, searching up to b for what is above r: what is left to search decides
+  pub Ahead : ℕ → ℕ → ℕ → Type 0
+  Ahead b r c = smallest f (suc r) (b - r) ≡ smallest f c (suc b - c)
+
+  pub ahead : (b r : ℕ) → Ahead b r (r + 1)
+  unfolding Ahead
+  ahead b r = let p : suc b - (r + 1) ≡ b - r = omega arith in rw (p, add-one)
+
+  module _ (b r c : ℕ) (h : Ahead b r c) where
+    pub nothing : b < c → optionOf 0 ≡ smallest f (suc r) (b - r)
+    unfolding Ahead smallest optionOf
+    nothing l = let p : suc b - c ≡ 0 = omega arith in sym (h ∙ rw p)
+
+    pub found : c ≤ b → f c ≡ true → optionOf (c + 1) ≡ smallest f (suc r) (b - r)
+    unfolding Ahead smallest optionOf
+    found l e = let p : suc b - c ≡ suc (b - c) = omega arith in sym (h ∙ rw (p, smallest, e, add-one))
+
+    pub onward : c ≤ b → f c ≡ false → Ahead b r (c + 1)
+    unfolding Ahead smallest
+    onward l e =
+        let p : suc b - c ≡ suc (b - c) = omega arith in
+        let q : suc b - (c + 1) ≡ b - c = omega arith in
+        h ∙ rw (p, q, smallest, e, add-one)

@@ -1,6 +1,6 @@
 -- The rows of a build.
 -- Rests on theory, calls.
--- an area that stands for the completion costs is looked up as the graph: low-in, lows-of
+-- an area that stands for the completion costs is looked up as the graph: low-in, next-in, lows-of
 pub mod Tables
 -- the edges of copies: edges-are
 pub mod Rows

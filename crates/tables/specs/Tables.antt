@@ -9,13 +9,19 @@ use lib.ListN.{length, getD}
 use Rattle.base.specs.Lists.{optionOf, keep}
 use Rattle.base.specs.Cells.{cellOf, cellCount, isSet}
 use Rattle.base.specs.Copy.{Copy, copyOf, numberFrom}
-use Rattle.theory.specs.Completions.{largest}
+use Rattle.theory.specs.Completions.{LookUp, lookUp}
 use Rattle.theory.specs.Copies.{candidates}
 use Rattle.calls.specs.Area.{stands}
 
--- A LOOK-UP gives for v and r the largest completion cost of v at or below r, if there is one. Read off a work area:
+-- THE LOOK-UP of v and r, read off a work area with the costs up to b: the largest of v's costs at or below r, and the smallest above it
+abbrev pub lookIn : ℕ → List ℕ → ℕ → ℕ → LookUp
+lookIn b area v r = lookUp (stands b area v) b r
+
 abbrev pub lowIn : ℕ → List ℕ → ℕ → ℕ → Option ℕ
-lowIn b area v r = largest (stands b area v) r
+lowIn b area v r = lookIn b area v r .low
+
+abbrev pub nextIn : ℕ → List ℕ → ℕ → ℕ → Option ℕ
+nextIn b area v r = lookIn b area v r .next
 
 -- MARKS: whether the copy of v with the low l is marked
 unfoldable pub marked : ℕ → List ℕ → ℕ → ℕ → Bool

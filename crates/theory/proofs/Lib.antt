@@ -25,3 +25,7 @@ pub mod Step
 pub mod Used
 -- a walk that is diverted before it sets out, where nothing fits its budget: stopped-agrees, stopped-paths
 pub mod Stopped
+-- the smallest completion cost above a number: next-some, next-none, is-next, no-next, exit-next
+pub mod Next
+-- a margin says what it should, and nothing else would: margins-say, one-margin, exit-margin
+pub mod Margins

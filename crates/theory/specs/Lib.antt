@@ -11,3 +11,5 @@ pub mod Machines
 pub mod Walks
 -- what the theorems are about, and what they promise
 pub mod Setting
+-- the margin of a copy, and what it says
+pub mod Margins

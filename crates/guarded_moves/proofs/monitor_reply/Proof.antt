@@ -97,7 +97,7 @@ look-up-requires c κs =
         block = (p .0, omega (arith, p .1, z .pre .0 .blocks));
         cost = omega (arith, z .pre .1 .1 .0);
       },
-      area-cell _ (z .args .l) _ _ (z .args .area .now) (p .0) (p .1) (omega (arith, z .pre .1 .1 .0)) (z .pre .1 .0 .room),
+      area-cell _ (z .args .l) _ _ (z .args .area .now) (p .0) (p .1) (omega arith) (z .pre .1 .0 .room),
     )
 
 -- the look-up is that of the graph
@@ -109,7 +109,7 @@ found :
 found c =
     let u = c .before .before in
     let p = block u in
-    c .look-up .ensures ∙ low-in (first u .pre .1 .0) _ _ (p .0) (p .1) (omega (arith, first u .pre .1 .1 .0))
+    c .look-up .ensures .0 ∙ low-in (first u .pre .1 .0) _ _ (p .0) (p .1) (omega (arith, first u .pre .1 .1 .0))
 
 returns-3 : tie.Need-returns-3
 returns-3 c =

@@ -102,7 +102,7 @@ module _ (c : tie.After-look-up) where
 
   looked : let a = first u .args in optionOf (c .look-up .result .low) ≡ lowOf (graph (a .s .now)) 1 (nth (budgetsIn (a .s .now)) (a .budget))
   looked =
-      start-low _ (first u .pre .0) (table largest) (fits largest) _ (largest .before .budget .ensures .0) _ (c .look-up .ensures)
+      start-low _ (first u .pre .0) (table largest) (fits largest) _ (largest .before .budget .ensures .0) _ (c .look-up .ensures .0)
 
 returns-3 : tie.Need-returns-3
 returns-3 c =

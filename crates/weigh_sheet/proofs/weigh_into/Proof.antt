@@ -47,7 +47,7 @@ returns c =
     let z = start b in
     let D = decoded b .decode .ensures in
     let q = b .largest .ensures .0 in (
-      fits-not _ _ (k .result .low) (start-low _ _ (z .pre .0 .0) (z .pre .0 .1) D q (w .weigh .ensures) _ (k .ensures)) (c .if1 .taken),
+      fits-not _ _ (k .result .low) (start-low _ _ (z .pre .0 .0) (z .pre .0 .1) D q (w .weigh .ensures) _ (k .ensures .0)) (c .if1 .taken),
       (area-filled _ _ (z .pre .0 .0) (z .pre .0 .1) D q (w .weigh .ensures), D),
     )
 
@@ -59,7 +59,7 @@ returns-2 c =
     let z = start b in
     let D = decoded b .decode .ensures in
     let q = b .largest .ensures .0 in (
-      fits _ _ (k .result .low) (start-low _ _ (z .pre .0 .0) (z .pre .0 .1) D q (w .weigh .ensures) _ (k .ensures)) (c .if1 .left),
+      fits _ _ (k .result .low) (start-low _ _ (z .pre .0 .0) (z .pre .0 .1) D q (w .weigh .ensures) _ (k .ensures .0)) (c .if1 .left),
       (area-filled _ _ (z .pre .0 .0) (z .pre .0 .1) D q (w .weigh .ensures), D),
     )
 
