@@ -9,7 +9,8 @@ use Rattle.base.specs.Cells.{cellCount}
 use Rattle.base.specs.Lists.{any, all, keep, each, chosen, isNone, from, member, distinct, equal, rising, lastOf}
 use Rattle.base.specs.Copy.{same, before, isIn, numberFrom}
 use Rattle.base.specs.Checks.{refused, over, numbersOf, numbersBefore, lentAfter, outside}
-use Rattle.theory.specs.Completions.{within, completes, largest, lowOf, fits}
+use Rattle.theory.specs.Completions.{within, completes, largest, smallest, lowOf, nextOf, fits}
+use Rattle.theory.specs.Margins.{marginsIn}
 use Rattle.theory.specs.Copies.{copyFor, targets, add, join, spread, candidates, startCopies, copiesFrom, targetNumber}
 use Rattle.theory.specs.Machines.{taken, replyAt, reply, answers, final}
 use Rattle.theory.specs.Walks.{startAt, endAt, mostMoves, isExit, hasEnded, monitorTake, monitor, boundedTake, boundedWalk}
@@ -26,7 +27,7 @@ use Rattle.formats.specs.Rule11.{badExit, badEdgeOrder, badTargetWords, bounded
 use Rattle.formats.specs.File.{wordOf, wordsOf, oddBytes}
 use Rattle.formats.specs.Listing.{digits, decimal, line, headingLine, copyLine, listingOf, refusalOf}
 use Rattle.formats.specs.Catalogue.{sheetsUpTo, sheets}
-use Rattle.formats.specs.Report.{unusedBlocks, refusedAs, figuresLine, refusedLine, sheetLine, plus, sums, totalLine}
+use Rattle.formats.specs.Report.{unusedBlocks, refusedAs, marginText, figuresLine, refusedLine, sheetLine, plus, sums, totalLine}
 use Rattle.formats.specs.Report.{greater, mostOf, most, mostLine, unusedLine, unusedLines, eachSheet, reportOf}
 use Rattle.calls.specs.SheetGraph.{graphAt, sheetCopies, rowOf, rowsOf, entryFor, boundedSheet, readBounded}
 use Rattle.calls.specs.Area.{areaSize, marks, byteOf, bytes, filled}
@@ -61,9 +62,9 @@ unfolding examples paper loop twice least inBytes text lines
 starred = refl
 
 pub pinned : Pinned refusals
-unfolding refusals six loop loopSaying threeSeven least sparing dear exitChained areaWith inBytes text lines
+unfolding refusals paper six loop loopSaying threeSeven least sparing dear exitChained areaWith inBytes text lines
     any all keep each chosen isNone from member distinct equal rising lastOf same before isIn numberFrom refused over lentAfter outside
-    within completes largest lowOf fits copyFor targets add join spread candidates startCopies copiesFrom targetNumber
+    within completes largest smallest lowOf nextOf fits copyFor targets add join spread candidates startCopies copiesFrom targetNumber marginsIn
     taken replyAt reply answers final startAt endAt mostMoves isExit hasEnded monitorTake monitor boundedTake boundedWalk
     follow unsound isSecond budgetsAt budgetCount budgetsIn badBudget badBudgets header costWord chain met successors
     short badCounts badLength costFits badCosts badTargets badChains exitChain sheetOrder
@@ -75,7 +76,7 @@ unfolding refusals six loop loopSaying threeSeven least sparing dear exitChained
     graphAt sheetCopies rowOf rowsOf entryFor boundedSheet readBounded marks byteOf bytes cellCount areaSize filled taskArea
     smallArea nothingFits frontOrder weighOrder numbersOf numbersBefore beforeWeighing areaAfter tooMany smallOutput buildOrder outputAfter build
     outOfShape badWalk moveOrder moved guardedOrder guardedReply guardedMove boundedMoveOrder boundedMove setsOut entersAt guardedStartOrder guardedStart boundedStartOrder boundedStart listingOrder sheetListing listing
-    sheetsUpTo sheets unusedBlocks refusedAs figuresLine refusedLine sheetLine plus sums totalLine
+    sheetsUpTo sheets unusedBlocks refusedAs marginText figuresLine refusedLine sheetLine plus sums totalLine
     greater mostOf most mostLine unusedLine unusedLines eachSheet reportOf
     sheetFigures figures report endNumber sheetShown outcome
 pinned = refl

@@ -4,7 +4,7 @@ use mathlib.Core.List.{List, [], _∷_, _++_}
 use Prim.Native.Nat.{ℕ}
 use lib.ListN.{replicate}
 use Rattle.theory.specs.Machines.{End, going, exit, diverted}
-use Rattle.formats.specs.Samples.{loop, loopWith, least, six, threeSeven, inBytes, lines}
+use Rattle.formats.specs.Samples.{paper, loop, loopWith, least, six, threeSeven, inBytes, lines}
 use Rattle.calls.specs.Moves.{Budgeted, budgeted}
 use Rattle.calls.specs.Cases.{Case, areaWith, sheetOf, buildOf, guardedOf, moveOf, startOf, enterOf, monitorOf, listingFor, reportFor}
 
@@ -277,14 +277,26 @@ refusals =
     -- the report program: an empty sheet is 1, a length beyond the words left 3; an odd last byte is ignored, an odd first one moves all words
     ∷ (
       reportFor (inBytes ((9 ∷ least) ++ ((15 ∷ loop 9) ++ ((15 ∷ loop 2) ++ (0 ∷ (19 ∷ sparing) ++ (10 ∷ least)))))),
-      lines ("1 2 2 1" ∷ "2 3 5 7" ∷ "3 refused 9" ∷ "4 refused 1" ∷ "5 4 3 3" ∷ "6 refused 3" ∷ "total 9 10 11" ∷ "most 2 5 3" ∷ "unused 5 4" ∷ []),
+      lines ("1 2 2 1 none none" ∷ "2 3 5 7 none none 3 3 none" ∷ "3 refused 9" ∷ "4 refused 1" ∷ "5 4 3 3 none none none" ∷ "6 refused 3"
+          ∷ "total 9 10 11" ∷ "most 2 5 3" ∷ "unused 5 4" ∷ []),
     )
     ∷ (
       reportFor (inBytes (9 ∷ least) ++ (9 ∷ [])),
-      lines ("1 2 2 1" ∷ "total 2 2 1" ∷ "most 1 2 2" ∷ []),
+      lines ("1 2 2 1 none none" ∷ "total 2 2 1" ∷ "most 1 2 2" ∷ []),
     )
     ∷ (
       reportFor (0 ∷ inBytes (9 ∷ least)),
       lines ("1 refused 3" ∷ "total 0 0 0" ∷ "most none" ∷ []),
+    )
+    -- margins: block 4 has 3 and 7, so that (4, 3) lacks 4 with a budget of 7 and has none with 6; block 5 has 6 and 10, with a budget of 11
+    ∷ (
+      reportFor (inBytes ((37 ∷ paper 6) ++ ((37 ∷ paper 7) ++ (37 ∷ paper 11)))),
+      lines ("1 8 6 7 none none none none 4 none" ∷ "2 8 6 7 none none none 4 4 none" ∷ "3 8 9 11 none none none none 4 4 none none none"
+          ∷ "total 24 21 25" ∷ "most 3 9 8" ∷ "unused 1 5" ∷ "unused 1 8" ∷ "unused 2 5" ∷ "unused 2 8" ∷ []),
+    )
+    -- of the loop with budgets 3 and 7 the start copy of the smaller one lacks 3, as far as the larger one goes; a refused sheet has none
+    ∷ (
+      reportFor (inBytes ((18 ∷ loopWith (3 ∷ 7 ∷ [])) ++ (18 ∷ loopWith (7 ∷ 7 ∷ [])))),
+      lines ("1 3 5 6 3 none none 3 none" ∷ "2 refused 41" ∷ "total 3 5 6" ∷ "most 1 5 3" ∷ []),
     )
     ∷ []

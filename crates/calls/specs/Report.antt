@@ -1,5 +1,5 @@
--- THE REPORT PROGRAM: from the bytes of a catalogue of graph sheets to the bytes of its output (document 02, K1).
--- Rests on base Checks, formats GraphSheet, BoundedSheet, File, Catalogue and Report, SheetGraph, Program.
+-- THE REPORT PROGRAM: from the bytes of a catalogue of graph sheets to the bytes of its output (document 02, K1 and K5).
+-- Rests on base Checks, theory Margins, formats GraphSheet, BoundedSheet, File, Catalogue and Report, SheetGraph, Program.
 use mathlib.Core.List.{List, map}
 use mathlib.Core.Option.{Option, some, none}
 use Prim.Native.Nat.{ℕ, zero, suc}
@@ -9,10 +9,11 @@ use Rattle.formats.specs.BoundedSheet.{heading}
 use Rattle.formats.specs.File.{wordsOf}
 use Rattle.formats.specs.Catalogue.{sheets}
 use Rattle.formats.specs.Report.{Figures, unusedBlocks, refusedAs, reportOf}
-use Rattle.calls.specs.SheetGraph.{boundedSheet}
+use Rattle.theory.specs.Margins.{marginsIn}
+use Rattle.calls.specs.SheetGraph.{task, boundedSheet}
 use Rattle.calls.specs.Program.{listingOrder}
 
--- "blocks, bounded copies and bounded edges" of an accepted graph sheet, and "each block that no kept path enters"
+-- "blocks, bounded copies and bounded edges" of an accepted graph sheet, "the margin of every copy", and "each block that no kept path enters"
 abbrev pub acceptedFigures : List ℕ → Figures
 acceptedFigures w =
     let t = boundedSheet w in
@@ -21,6 +22,7 @@ acceptedFigures w =
       blocks = header w .blocks;
       copies = heading t .copies;
       edges = heading t .edges;
+      margins = marginsIn (task w);
       unused = unusedBlocks (header w .blocks) t;
     }
 

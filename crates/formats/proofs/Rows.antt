@@ -17,7 +17,7 @@ use Rattle.formats.specs.Rule11.{badExit, badEdgeOrder, badTargetWords, 
 use Rattle.formats.specs.File.{wordOf, wordsOf}
 use Rattle.formats.specs.Listing.{digits, decimal, line, headingLine, copyLine, listingOf}
 use Rattle.formats.specs.Catalogue.{sheetsUpTo, sheets}
-use Rattle.formats.specs.Report.{unusedBlocks, refusedAs, figuresLine, refusedLine, sheetLine, plus, sums, totalLine}
+use Rattle.formats.specs.Report.{unusedBlocks, refusedAs, marginText, figuresLine, refusedLine, sheetLine, plus, sums, totalLine}
 use Rattle.formats.specs.Report.{greater, mostOf, most, mostLine, unusedLine, unusedLines, eachSheet, reportOf}
 use Rattle.formats.specs.Samples.{paper, loopSaying, least, nine, threeSeven, inBytes, text, lines}
 use Rattle.formats.specs.Refusals.{sheetShown, outcome, refusals}
@@ -31,7 +31,7 @@ unfolding refusals paper loopSaying least nine threeSeven inBytes text lines
     tooShort badLimits wrongLength badBlocks badLows badCopyOrder copiesOf notOneOf startCount entryFits badEntries noLastEntry unnamedStart
     badExit badEdgeOrder badTargetWords boundedOrder boundedRefusal partOrder handOut
     wordOf wordsOf digits decimal line headingLine copyLine listingOf
-    sheetsUpTo sheets unusedBlocks refusedAs figuresLine refusedLine sheetLine plus sums totalLine
+    sheetsUpTo sheets unusedBlocks refusedAs marginText figuresLine refusedLine sheetLine plus sums totalLine
     greater mostOf most mostLine unusedLine unusedLines eachSheet reportOf
     sheetShown outcome
 pinned = refl

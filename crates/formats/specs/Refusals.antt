@@ -57,8 +57,8 @@ outcome (unusedOf n t) = unusedBlocks n t
 outcome (reportFrom fs) = reportOf fs
 
 -- the figures of an accepted sheet
-abbrev figured : ℕ → ℕ → ℕ → List ℕ → Figures
-figured n c f vs = record { answer = 0; blocks = n; copies = c; edges = f; unused = vs }
+abbrev figured : ℕ → ℕ → ℕ → List (Option ℕ) → List ℕ → Figures
+figured n c f ms vs = record { answer = 0; blocks = n; copies = c; edges = f; margins = ms; unused = vs }
 
 unfoldable pub refusals : List (Case × List ℕ)
 refusals =
@@ -250,7 +250,8 @@ refusals =
     -- the blocks without a copy
     ∷ (unusedOf 8 nine, [])
     ∷ (unusedOf 10 (3 ∷ 1 ∷ 0 ∷ 1 ∷ 0 ∷ 1 ∷ 2 ∷ 0 ∷ 0 ∷ 5 ∷ 0 ∷ 0 ∷ 2 ∷ 0 ∷ []), 3 ∷ 4 ∷ 6 ∷ 7 ∷ 8 ∷ 9 ∷ 10 ∷ [])
-    -- reports: no sheet; only refused ones; a refused one between others, equal fractions, unused blocks; a smaller fraction with more copies
+    -- reports: no sheet; only refused ones; a refused one between others, equal fractions, unused blocks; a smaller fraction with more copies;
+    -- margins, in the order in which they stand
     ∷ (
       reportFrom [],
       lines ("total 0 0 0" ∷ "most none" ∷ []),
@@ -260,11 +261,11 @@ refusals =
       lines ("1 refused 10" ∷ "total 0 0 0" ∷ "most none" ∷ []),
     )
     ∷ (
-      reportFrom (figured 4 4 5 (4 ∷ []) ∷ refusedAs 3 ∷ figured 2 3 1 [] ∷ figured 4 6 3 (3 ∷ 4 ∷ []) ∷ []),
-      lines ("1 4 4 5" ∷ "2 refused 3" ∷ "3 2 3 1" ∷ "4 4 6 3" ∷ "total 10 13 9" ∷ "most 3 3 2" ∷ "unused 1 4" ∷ "unused 4 3" ∷ "unused 4 4" ∷ []),
+      reportFrom (figured 4 4 5 [] (4 ∷ []) ∷ refusedAs 3 ∷ figured 2 3 1 (none ∷ []) [] ∷ figured 4 6 3 (some 12 ∷ none ∷ some 500 ∷ []) (3 ∷ 4 ∷ []) ∷ []),
+      lines ("1 4 4 5" ∷ "2 refused 3" ∷ "3 2 3 1 none" ∷ "4 4 6 3 12 none 500" ∷ "total 10 13 9" ∷ "most 3 3 2" ∷ "unused 1 4" ∷ "unused 4 3" ∷ "unused 4 4" ∷ []),
     )
     ∷ (
-      reportFrom (figured 100 149 9 [] ∷ figured 2 3 1 [] ∷ figured 3 4 1 [] ∷ []),
+      reportFrom (figured 100 149 9 [] [] ∷ figured 2 3 1 [] [] ∷ figured 3 4 1 [] [] ∷ []),
       lines ("1 100 149 9" ∷ "2 2 3 1" ∷ "3 3 4 1" ∷ "total 105 156 11" ∷ "most 2 3 2" ∷ []),
     )
     ∷ []

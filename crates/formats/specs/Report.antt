@@ -1,10 +1,10 @@
--- The text of a report on a catalogue, from the figures of its sheets (document 02, K1).
+-- The text of a report on a catalogue, from the figures of its sheets (document 02, K1 and K5).
 -- Rests on base Lists, BoundedSheet, Listing.
 use mathlib.Core.Path.{_≡_}
 use mathlib.Core.Logic.{_≢_, _⊎_}
 use mathlib.Core.Bool.{Bool, true, false, not}
 use mathlib.Core.List.{List, [], _∷_, _++_, map}
-use mathlib.Core.Option.{some}
+use mathlib.Core.Option.{Option, some, none}
 use Prim.Native.Nat.{ℕ, zero, suc, _+_, _*_, _≤_, _<_}
 use lib.Dec.{ltb}
 use Rattle.base.specs.Lists.{keep, each, chosen, from, member}
@@ -19,17 +19,18 @@ copyBlocks t = map (blockAt (heading t) t) (from 1 (heading t .copies))
 unfoldable pub unusedBlocks : ℕ → List ℕ → List ℕ
 unusedBlocks n t = keep (λ v. not (member v (copyBlocks t))) (from 1 n)
 
--- what a report says of a sheet: the number that refused it, or 0 and N, C, F and the blocks that no kept path enters
+-- what a report says of a sheet: the number that refused it, or 0 and N, C, F, the margins of its copies, and the blocks that no kept path enters
 pub record Figures : Type 0 where
   pub answer : ℕ
   pub blocks : ℕ
   pub copies : ℕ
   pub edges : ℕ
+  pub margins : List (Option ℕ)
   pub unused : List ℕ
 
 -- "A refused sheet gives its one line only and adds nothing to the totals."
 unfoldable pub refusedAs : ℕ → Figures
-refusedAs n = record { answer = n; blocks = 0; copies = 0; edges = 0; unused = [] }
+refusedAs n = record { answer = n; blocks = 0; copies = 0; edges = 0; margins = []; unused = [] }
 
 -- `total`, `most`, `none`, `unused`
 abbrev pub totalText : List ℕ
@@ -44,15 +45,20 @@ noneText = 110 ∷ 111 ∷ 110 ∷ 101 ∷ []
 abbrev pub unusedText : List ℕ
 unusedText = 117 ∷ 110 ∷ 117 ∷ 115 ∷ 101 ∷ 100 ∷ []
 
--- "the sheet's place from 1, N, C, F, or place, `refused`, number"
-unfoldable pub figuresLine : ℕ → ℕ → ℕ → ℕ → List ℕ
-figuresLine p n c f = line (decimal p ∷ decimal n ∷ decimal c ∷ decimal f ∷ [])
+-- a margin: "that next cost less its low, or `none`"
+unfoldable pub marginText : Option ℕ → List ℕ
+marginText none = noneText
+marginText (some m) = decimal m
+
+-- "the sheet's place from 1, N, C, F, or place, `refused`, number"; "the report ends a sheet's line with the margin of every copy, in order"
+unfoldable pub figuresLine : ℕ → ℕ → ℕ → ℕ → List (Option ℕ) → List ℕ
+figuresLine p n c f ms = line (decimal p ∷ decimal n ∷ decimal c ∷ decimal f ∷ map marginText ms)
 
 unfoldable pub refusedLine : ℕ → ℕ → List ℕ
 refusedLine p n = line (decimal p ∷ refusedText ∷ decimal n ∷ [])
 
 unfoldable pub sheetLine : ℕ → Figures → List ℕ
-sheetLine p f = elim (f .answer) [ zero ↦ figuresLine p (f .blocks) (f .copies) (f .edges) | suc n ↦ refusedLine p (suc n) ]
+sheetLine p f = elim (f .answer) [ zero ↦ figuresLine p (f .blocks) (f .copies) (f .edges) (f .margins) | suc n ↦ refusedLine p (suc n) ]
 
 -- "`total` and the sums"
 pub record Sums : Type 0 where

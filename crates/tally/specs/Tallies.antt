@@ -16,7 +16,7 @@ mostFrom m = record { place = m .place; copies = m .copies; blocks = m .blocks }
 
 -- the figures that a tally goes by
 abbrev pub figured : ℕ → ℕ → ℕ → Figures
-figured n c f = record { answer = 0; blocks = n; copies = c; edges = f; unused = [] }
+figured n c f = record { answer = 0; blocks = n; copies = c; edges = f; margins = []; unused = [] }
 
 -- no number is larger than so many sheets can make it
 pub record Fits (t : Tally) : Type 0 where

@@ -4,5 +4,3 @@ pub mod Lines
 pub mod Kept
 -- the texts have room: listing-fits, refusal-fits
 pub mod Room
--- a line for each number: lines-begin, lines-on, lines-end
-pub mod Copies

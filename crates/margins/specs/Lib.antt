@@ -1,0 +1,2 @@
+-- margins by a bounded sheet and a work area: marginAt, marginsAt, marginWord, Records
+pub mod Margins
