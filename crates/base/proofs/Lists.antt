@@ -44,6 +44,11 @@ module _ {A B : Type 0} (f : A → List B) where
   each-same g (x ∷ xs) h =
       ap₂ (λ (ys zs : List B). ys ++ zs) (h x (List·Memᴰ·head refl)) (each-same g xs (λ y m. h y (List·Memᴰ·tail m)))
 
+pub each-map : {A B C : Type 0} (f : B → List C) (g : A → B) (xs : List A) → each f (map g xs) ≡ each (λ x. f (g x)) xs
+unfolding each
+each-map f g [] = refl
+each-map {C = C} f g (x ∷ xs) = ap (λ (ys : List C). f (g x) ++ ys) (each-map f g xs)
+
 -- what is kept
 module _ {A : Type 0} (f : A → Bool) where
   pub keep-i : {x : A} (xs : List A) → List·Memᴰ x xs → f x ≡ true → List·Memᴰ x (keep f xs)
@@ -135,6 +140,16 @@ each-next f ws i x l e =
 -- THE K-TH OF A LIST
 
 -- a choice among the images is the image of a choice
+-- what f makes of the numbers from a on is what g makes of the elements with these numbers
+pub map-numbered : {X Y : Type 0} (f : ℕ → Y) (g : X → Y) (a : ℕ) (xs : List X) → ((i : ℕ) (x : X) → chosen xs (suc i) ≡ some x → f (a + i) ≡ g x)
+    → map f (from a (length xs)) ≡ map g xs
+unfolding from chosen
+map-numbered f g a [] h = refl
+map-numbered {Y = Y} f g a (x ∷ xs) h =
+    let p : a + 0 ≡ a = omega arith in
+    ap₂ (λ (y : Y) (ys : List Y). y ∷ ys) (ap f (sym p) ∙ h 0 x refl)
+    (map-numbered f g (suc a) xs (λ i y e. let q : suc a + i ≡ a + suc i = omega arith in ap f q ∙ h (suc i) y e))
+
 pub chosen-map : {X Y : Type 0} (f : X → Y) (xs : List X) (k : ℕ) → chosen (map f xs) k ≡ Option·map f (chosen xs k)
 unfolding chosen
 chosen-map f xs zero = refl

@@ -22,7 +22,9 @@ pub mod Forms
 pub mod Rows
 -- what a report says of a sheet: sheet-accepted, sheet-refused, listed, unused-exactly
 pub mod Unused
--- and of the greatest: report-greatest
+-- the margins of its copies: margin-count, sheet-margins
+pub mod Margins
+-- and the greatest: report-greatest
 pub mod Greatest
 -- no copy but the start's is reached from itself: falls-by, few-moves, no-loop
 pub mod Unrolled

@@ -8,5 +8,5 @@ pub mod Counted
 pub mod Decimals
 -- how long a number behind a space is, and a list of parts: spaced-3, .., each-room
 pub mod Room
--- a line of numbers, part by part: numbers-line
+-- a line of words, part by part: words-line, numbers-line
 pub mod NumberLine

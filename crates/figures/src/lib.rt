@@ -8,7 +8,8 @@ ghost use Rattle.formats.specs.Limits.{mostBlocks, mostCells};
 ghost use Rattle.calls.specs.Report.{figures};
 ghost use Rattle.file_words.specs.Longer.{longerFile};
 ghost use Rattle.front.specs.Front.{mostWords};
-ghost use Rattle.report_lines.specs.Lines.{numberLimit, lineRoom};
+ghost use Rattle.report_lines.specs.Lines.{numberLimit};
+ghost use Rattle.sheet_lines.specs.Room.{sheetRoom};
 ghost use Rattle.sheet_figures.specs.Says.{Says, Small};
 ghost use Rattle.figures.specs.Reports.{Reports};
 use build::build;
@@ -33,21 +34,21 @@ fn report_in_rows(
     requires { ⌜ (mostCells ≤ length (now area)) × (mostWords ≤ length (now out)) ⌝ }
     requires { ⌜ place < numberLimit ⌝ }
     requires { ⌜ length (now marks) ≡ mostBlocks ⌝ }
-    requires { ⌜ lineRoom ≤ length (now text) ⌝ }
+    requires { ⌜ sheetRoom ≤ length (now text) ⌝ }
     ensures { λ r. ⌜ Says (figures (some (now (words .entry)))) place r (now (marks .exit)) (now (text .entry)) (now (text .exit)) × Small r ⌝ }
 {
     let a = build(words, area, out);
     if a != 0 {
         return report_refused(a as usize, place, marks, text);
     }
-    report_built(words, out, place, marks, text)
+    report_built(words, out, area, place, marks, text)
 }
 
 // What is said of the graph sheet at a place of a catalogue; the rows are local, once.
 fn report_sheet(words: &[u16], place: usize, marks: &mut [u8], text: &mut [u8]) -> Reported
     requires { ⌜ place < numberLimit ⌝ }
     requires { ⌜ length (now marks) ≡ mostBlocks ⌝ }
-    requires { ⌜ lineRoom ≤ length (now text) ⌝ }
+    requires { ⌜ sheetRoom ≤ length (now text) ⌝ }
     ensures { λ r. ⌜ Says (figures (some (now (words .entry)))) place r (now (marks .exit)) (now (text .entry)) (now (text .exit)) × Small r ⌝ }
 {
     let mut area = [0u8; MOST_CELLS];
@@ -66,7 +67,7 @@ pub fn report_item(
     requires { ⌜ length (now bytes) ≤ longerFile ⌝ }
     requires { ⌜ place < numberLimit ⌝ }
     requires { ⌜ length (now marks) ≡ mostBlocks ⌝ }
-    requires { ⌜ lineRoom ≤ length (now text) ⌝ }
+    requires { ⌜ sheetRoom ≤ length (now text) ⌝ }
     ensures { λ r. ⌜ Reports (now (bytes .entry)) cut place r (now (marks .exit)) (now (text .entry)) (now (text .exit)) ⌝ }
     ensures { λ r. ⌜ (r .size ≤ length (now (text .exit))) × Small r ⌝ }
 {

@@ -94,7 +94,7 @@ module _ (w area out : List ℕ) where
 
     module _ (ok : sheetRefusal w ≡ 0) where
       -- no 21
-      area-fits : taskArea (task w) ≤ length area
+      pub area-fits : taskArea (task w) ≤ length area
       unfolding taskArea areaSize
       area-fits =
           let A = accepted w ok in

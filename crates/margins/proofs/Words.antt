@@ -1,14 +1,13 @@
 -- The text of a margin, by whether there is a next cost; the cost lies above the low and within the budget, so the text is short.
--- Rests on base Lists, theory Next, formats Report, tables Tables, digits Spaced and Room, specs Margins.
+-- Rests on base Lists and Cells, theory Next, formats Limits, Words and Report, calls Area, tables Tables and Places, digits Spaced and Room, specs Margins.
 use mathlib.Core.Path.{_≡_, refl, sym, ap, ap₂, _∙_}
-use mathlib.Core.List.{List, [], _∷_}
-use mathlib.Core.Option.{Option, some, none, Option·none-ne-some, Option·some-ne-none}
-use Prim.Native.Nat.{ℕ, zero, suc, _+_, _-_, _*_, _≤_, _<_}
+use mathlib.Core.List.{List, _∷_}
+use mathlib.Core.Option.{Option, some, none}
+use Prim.Native.Nat.{ℕ, zero, suc, _-_, _≤_, _<_}
 use native.Mathlib.Omega.{arith}
 use lib.ListN.{length}
-use Rattle.base.specs.Lists.{optionOf, from}
-use Rattle.base.proofs.Lists.{from-e, from-length}
-use Rattle.theory.proofs.Next.{IsSmallest, smallest-some}
+use Rattle.base.specs.Lists.{optionOf}
+use Rattle.theory.proofs.Next.{smallest-some}
 use Rattle.formats.specs.Limits.{mostBlocks, mostBudget, mostCells}
 use Rattle.formats.specs.Words.{field}
 use Rattle.formats.specs.Report.{noneText, marginText}
@@ -18,8 +17,8 @@ use Rattle.calls.proofs.Area.{area-cell}
 use Rattle.tables.proofs.Places.{few-cells}
 use Rattle.tables.specs.Tables.{nextIn}
 use Rattle.digits.specs.Spaced.{spaced}
-use Rattle.digits.proofs.Room.{spaced-3, each-room}
-use Rattle.margins.specs.Margins.{lessLow, marginAt, marginWord, marginWords, Records}
+use Rattle.digits.proofs.Room.{spaced-3}
+use Rattle.margins.specs.Margins.{lessLow, marginAt, marginWord}
 
 -- ` none`, and a number
 pub word-none : (a n : ℕ) → n ≡ 0 → 32 ∷ noneText ≡ marginWord (lessLow a (optionOf n))
@@ -41,7 +40,7 @@ module _ (b v a : ℕ) (area : List ℕ) where
   next-above zero e l = absurd (omega arith)
   next-above (suc n) e l = omega (arith, next-lies n (sym e))
 
-  word-length : b ≤ mostBudget → length (marginWord (lessLow a (nextIn b area v a))) ≤ 5
+  pub word-length : b ≤ mostBudget → length (marginWord (lessLow a (nextIn b area v a))) ≤ 5
   unfolding marginWord marginText spaced
   word-length l = go (nextIn b area v a) refl
     where
@@ -60,9 +59,3 @@ pub costs-stand : (b v : ℕ) (area : List ℕ) → b ≤ mostBudget → 1 ≤ v
 unfolding areaSize cellCount
 costs-stand b v area l p q room =
     area-cell mostBlocks b v b area p q (omega arith) (omega (arith, few-cells mostBlocks b (omega arith) l))
-
--- ALL OF THEM
-pub words-length : {t : List ℕ} {b at c : ℕ} → Records t b at c → (area : List ℕ) → length (marginWords t area b at c) ≤ 5 * c
-unfolding marginWords
-words-length {t} {b} {at} {c} R area =
-    omega (arith, each-room (λ i. marginWord (marginAt t area b at i)) 5 (from 1 c) (λ i m. word-length b (field t at 3 i 0) (field t at 3 i 1) area (R .budget)), from-length c 1)

@@ -1,6 +1,5 @@
 // The margins of a bounded sheet's copies, looked up in the work area of its build and written into a lent row of bytes.
 // Rests on words, look and digits; the promise says the whole row, by digits Wrote and specs Margins.
-ghost use mathlib.Core.Path.{_≡_};
 ghost use Prim.Native.Nat.{_+_, _<_, _≤_};
 ghost use lib.ListN.{length};
 ghost use Rattle.base.specs.Lists.{optionOf};

@@ -1,2 +1,2 @@
--- the room that lines take, and the end of a line
+-- the room that lines take, and three numbers in a line: numberLimit, lineRoom, threeText, lastThree
 pub mod Lines

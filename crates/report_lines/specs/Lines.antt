@@ -1,4 +1,4 @@
--- The room that a report's lines take, and the end of a line.
+-- The room that a report's closing lines take, and three numbers in a line.
 -- Rests on digits Spaced.
 use mathlib.Core.List.{List, [], _∷_, _++_}
 use Prim.Native.Nat.{ℕ}
@@ -8,10 +8,14 @@ use Rattle.digits.specs.Spaced.{spaced}
 abbrev pub numberLimit : ℕ
 numberLimit = 10000000
 
--- a line with four such numbers, or with a word of at most 8 letters and three
+-- a line with four such numbers, or with a word of at most 8 letters and three, and its newline
 abbrev pub lineRoom : ℕ
 lineRoom = 33
 
--- the end of a line: three numbers
+-- three numbers in a line
 unfoldable pub threeText : ℕ → ℕ → ℕ → List ℕ
-threeText x y z = spaced x ++ (spaced y ++ (spaced z ++ (10 ∷ [])))
+threeText x y z = spaced x ++ (spaced y ++ spaced z)
+
+-- the end of a closing line: three numbers and the newline
+unfoldable pub lastThree : ℕ → ℕ → ℕ → List ℕ
+lastThree x y z = threeText x y z ++ (10 ∷ [])

@@ -1,27 +1,32 @@
-// The closing lines of a report, and the end of a line, written into a lent row of bytes.
+// The closing lines of a report, and three numbers in a line, written into a lent row of bytes.
 // Rests on digits; the promises say the whole row, by digits Wrote and formats Report.
 ghost use Prim.Native.Nat.{_+_, _<_, _≤_};
 ghost use lib.ListN.{length};
 ghost use Rattle.formats.specs.Report.{totalLine, mostLine};
 ghost use Rattle.digits.specs.Wrote.{Wrote};
-ghost use Rattle.report_lines.specs.Lines.{numberLimit, lineRoom, threeText};
+ghost use Rattle.report_lines.specs.Lines.{numberLimit, lineRoom, threeText, lastThree};
 use digits::NEWLINE;
 use digits::put_byte;
 use digits::put_bytes;
 use digits::put_number;
 
-// The room that a line takes.
-pub const LINE_SIZE: usize = 33;
-
-// Writes three numbers, each behind a space, and the newline.
+// Writes three numbers, each behind a space.
 pub fn put_three(text: &mut [u8], at: usize, x: usize, y: usize, z: usize) -> usize
     requires { ⌜ at + length (threeText x y z) ≤ length (now text) ⌝ }
     ensures { λ r. ⌜ Wrote (now (text .entry)) at (threeText x y z) (now (text .exit)) r ⌝ }
 {
     let p = put_number(text, at, x);
     let q = put_number(text, p, y);
-    let r = put_number(text, q, z);
-    put_byte(text, r, NEWLINE)
+    put_number(text, q, z)
+}
+
+// Writes three numbers, each behind a space, and the newline.
+fn put_last_three(text: &mut [u8], at: usize, x: usize, y: usize, z: usize) -> usize
+    requires { ⌜ at + length (lastThree x y z) ≤ length (now text) ⌝ }
+    ensures { λ r. ⌜ Wrote (now (text .entry)) at (lastThree x y z) (now (text .exit)) r ⌝ }
+{
+    let p = put_three(text, at, x, y, z);
+    put_byte(text, p, NEWLINE)
 }
 
 // Writes the line of the totals.
@@ -31,7 +36,7 @@ pub fn write_total(text: &mut [u8], blocks: usize, copies: usize, edges: usize) 
     ensures { λ r. ⌜ Wrote (now (text .entry)) 0 (totalLine (record { blocks = blocks; copies = copies; edges = edges })) (now (text .exit)) r × (r ≤ length (now (text .exit))) ⌝ }
 {
     let p = put_bytes(text, 0, b"total");
-    put_three(text, p, blocks, copies, edges)
+    put_last_three(text, p, blocks, copies, edges)
 }
 
 // Writes the line of the greatest fraction; place 0 is none.
@@ -45,5 +50,5 @@ pub fn write_most(text: &mut [u8], place: usize, copies: usize, blocks: usize) -
         return put_byte(text, p, NEWLINE);
     }
     let p = put_bytes(text, 0, b"most");
-    put_three(text, p, place, copies, blocks)
+    put_last_three(text, p, place, copies, blocks)
 }

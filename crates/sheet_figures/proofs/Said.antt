@@ -1,6 +1,6 @@
 -- What is said of a refused and of an accepted sheet, from what the calls below answer and leave.
--- Rests on formats Report, Accepted and RuleRead, calls Unused and Built, digits Wrote and Due, unused Named, specs Says.
-use mathlib.Core.Path.{_≡_, refl, sym, ap, _∙_}
+-- Rests on formats Report, Accepted and RuleRead, calls Unused and Built, digits Wrote and Due, margins Task, unused Named, specs Says.
+use mathlib.Core.Path.{_≡_, refl, sym, ap, ap₂, _∙_}
 use mathlib.Core.List.{List}
 use Prim.Native.Nat.{ℕ, zero, suc, _≤_, _<_}
 use native.Mathlib.Omega.{arith}
@@ -20,9 +20,11 @@ use Rattle.calls.proofs.Built.{keeps-rule}
 use Rattle.calls.proofs.Unused.{listed}
 use Rattle.digits.specs.Wrote.{Wrote}
 use Rattle.digits.proofs.Due.{wrote-as}
+use Rattle.margins.specs.Margins.{marginsAt}
+use Rattle.margins.proofs.Task.{margins-are}
 use Rattle.unused.specs.Marks.{markedBlocks, First}
 use Rattle.unused.proofs.Named.{names-none}
-use Rattle.sheet_figures.specs.Says.{Says, Small}
+use Rattle.sheet_figures.specs.Says.{Costs, Says, Small}
 
 -- A REFUSED SHEET
 by-number : (p n : ℕ) → 0 < n → sheetLine p (refusedAs n) ≡ refusedLine p n
@@ -71,14 +73,19 @@ module _ (w : List ℕ) (e : refused listingOrder w ≡ 0) where
           record { blocks = omega (arith, i, blocks-most); copies = F .copies .1; edges = F .edges .1 }
 
       pub accepted-says : {p s : ℕ} {marks old text : List ℕ} → markedBlocks marks ≡ unusedBlocks (g .blocks) t
-          → Wrote old 0 (figuresLine p (g .blocks) (h .copies) (h .edges)) text s × (s ≤ length text)
+          → {area : List ℕ} → Costs w area
+          → Wrote old 0 (figuresLine p (g .blocks) (heading t .copies) (heading t .edges) (marginsAt t area)) text s × (s ≤ length text)
           → Says (acceptedFigures w) p (record { blocks = g .blocks; copies = h .copies; edges = h .edges; size = s }) marks old text
       unfolding sheetLine
-      accepted-says {p} m l = record {
+      accepted-says {p} m {area} C l = record {
         blocks = i;
         copies = j;
         edges = k;
         unused = m ∙ ap (λ (x : ℕ). unusedBlocks x t) i ∙ ap (unusedBlocks (header w .blocks)) q;
-        line = wrote-as (l .0) (rw (i, j, k));
+        line =
+            wrote-as (l .0)
+            (ap (λ (x : List ℕ). figuresLine p (g .blocks) (heading x .copies) (heading x .edges) (marginsAt x area)) q
+            ∙ ap₂ (λ (x : ℕ) (ms : _). figuresLine p x (heading (boundedSheet w) .copies) (heading (boundedSheet w) .edges) ms) i
+            (margins-are w (listed w e) (C .table)));
         inside = l .1;
       }

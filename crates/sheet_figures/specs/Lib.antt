@@ -1,2 +1,2 @@
--- what a report says of a sheet, in the rows that are lent: Says, Small
+-- what a report says of a sheet, in the rows that are lent: Costs, Says, Small
 pub mod Says

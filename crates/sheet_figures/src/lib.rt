@@ -12,8 +12,9 @@ ghost use Rattle.calls.specs.SheetGraph.{boundedSheet};
 ghost use Rattle.calls.specs.Program.{listingOrder};
 ghost use Rattle.calls.specs.Report.{acceptedFigures, figures};
 ghost use Rattle.front.specs.Front.{frontSheet};
-ghost use Rattle.report_lines.specs.Lines.{numberLimit, lineRoom};
-ghost use Rattle.sheet_figures.specs.Says.{Says, Small};
+ghost use Rattle.report_lines.specs.Lines.{numberLimit};
+ghost use Rattle.sheet_lines.specs.Room.{sheetRoom};
+ghost use Rattle.sheet_figures.specs.Says.{Costs, Says, Small};
 use front::front_sheet;
 use headers::read_header;
 use headers::read_heading;
@@ -34,7 +35,7 @@ pub struct Reported {
 pub fn report_refused(number: usize, place: usize, marks: &mut [u8], text: &mut [u8]) -> Reported
     requires { ⌜ (0 < number) × (number < numberLimit) × (place < numberLimit) ⌝ }
     requires { ⌜ length (now marks) ≡ mostBlocks ⌝ }
-    requires { ⌜ lineRoom ≤ length (now text) ⌝ }
+    requires { ⌜ sheetRoom ≤ length (now text) ⌝ }
     ensures { λ r. ⌜ Says (refusedAs number) place r (now (marks .exit)) (now (text .entry)) (now (text .exit)) × Small r ⌝ }
 {
     mark_first(marks, 0);
@@ -47,26 +48,28 @@ pub fn report_refused(number: usize, place: usize, marks: &mut [u8], text: &mut 
     }
 }
 
-// What is said of an accepted graph sheet, whose bounded sheet stands at the front of a row.
+// What is said of an accepted graph sheet, whose bounded sheet stands at the front of a row; the area has its completion costs.
 pub fn report_built(
     words: &[u16],
     row: &[u16],
+    area: &[u8],
     place: usize,
     marks: &mut [u8],
     text: &mut [u8],
 ) -> Reported
     requires { ⌜ refused listingOrder (now words) ≡ 0 ⌝ }
     requires { ⌜ (boundedLength (heading (now row)) ≤ length (now row)) × (frontSheet (now row) ≡ boundedSheet (now words)) ⌝ }
+    requires { ⌜ Costs (now words) (now area) ⌝ }
     requires { ⌜ place < numberLimit ⌝ }
     requires { ⌜ length (now marks) ≡ mostBlocks ⌝ }
-    requires { ⌜ lineRoom ≤ length (now text) ⌝ }
+    requires { ⌜ sheetRoom ≤ length (now text) ⌝ }
     ensures { λ r. ⌜ Says (acceptedFigures (now (words .entry))) place r (now (marks .exit)) (now (text .entry)) (now (text .exit)) × Small r ⌝ }
 {
     let g = read_header(words);
     let t = front_sheet(row);
     mark_unused(t, g.blocks, marks);
     let h = read_heading(t);
-    let k = write_figures(text, place, g.blocks, h.copies, h.edges);
+    let k = write_figures(t, area, text, place, g.blocks);
     Reported {
         blocks: g.blocks,
         copies: h.copies,
@@ -79,7 +82,7 @@ pub fn report_built(
 pub fn report_cut(place: usize, marks: &mut [u8], text: &mut [u8]) -> Reported
     requires { ⌜ place < numberLimit ⌝ }
     requires { ⌜ length (now marks) ≡ mostBlocks ⌝ }
-    requires { ⌜ lineRoom ≤ length (now text) ⌝ }
+    requires { ⌜ sheetRoom ≤ length (now text) ⌝ }
     ensures { λ r. ⌜ Says (figures none) place r (now (marks .exit)) (now (text .entry)) (now (text .exit)) × Small r ⌝ }
 {
     report_refused(3, place, marks, text)

@@ -5,7 +5,7 @@ use native.Mathlib.Omega.{arith}
 use borrow.Author.Needs.{needs}
 use Rattle.calls.specs.Report.{figures}
 use Rattle.front.proofs.Answer.{list-answer, front-is, front-fits}
-use Rattle.figures.proofs.Answered.{says-accepted, says-refused}
+use Rattle.figures.proofs.Answered.{costs-left, says-accepted, says-refused}
 use Rattle.figures.proofs.report_in_rows.Statement.{statement}
 use Rattle.figures.proofs.report_in_rows.Tie as tie
 
@@ -29,7 +29,7 @@ returns c =
 
 report-built-requires : tie.Need-report-built-requires
 report-built-requires c κs =
-    let i = c .before .before .before in
+    let i = c .before .before .before .before in
     let b = i .before .before .before .before .before in
     let z = b .before .before .before .before .before .before .before .before in
     let w = z .args .words .now in
@@ -38,13 +38,13 @@ report-built-requires c κs =
     let e = b .build .ensures in
     let p = sym (e .0) ∙ i .if1 .left in
     let a = list-answer w area out (z .pre .0 .0) (z .pre .0 .1) in
-    (sym a ∙ p, ((front-fits w area out _ (e .1 .1) p, front-is w area out _ (e .1 .1) p), z .pre .1))
+    (sym a ∙ p, ((front-fits w area out _ (e .1 .1) p, front-is w area out _ (e .1 .1) p), (costs-left w area out (z .pre .0 .0) (z .pre .0 .1) (e .1 .0) p, z .pre .1)))
 
 returns-2 : tie.Need-returns-2
 unfolding figures
 returns-2 c =
     let r = c .before .before .before .before in
-    let i = r .before .before .before .before in
+    let i = r .before .before .before .before .before in
     let b = i .before .before .before .before .before in
     let z = b .before .before .before .before .before .before .before .before in
     let w = z .args .words .now in

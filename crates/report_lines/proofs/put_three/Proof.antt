@@ -1,4 +1,4 @@
--- The three numbers, each behind a space, then the newline.
+-- The three numbers, each behind a space.
 -- Rests on digits Due, Room.
 use native.Mathlib.Omega.{arith}
 use borrow.Author.Needs.{needs}
@@ -31,33 +31,12 @@ put-number-requires-3 c κs =
       three-length (a .x) (a .y) (a .z),
     )
 
-put-byte-requires : tie.Need-put-byte-requires
-put-byte-requires c κs =
-    let z = c .before .before .before in
-    let y = z .before .before .before .before in
-    let x = y .before .before .before .before in
-    let a = x .before .before .before .args in
-    omega (
-      arith,
-      x .put-number .ensures .is-end,
-      x .put-number .kept .0,
-      y .put-number2 .ensures .is-end,
-      y .put-number2 .kept .0,
-      z .put-number3 .ensures .is-end,
-      z .put-number3 .kept .0,
-      three-length (a .x) (a .y) (a .z),
-    )
-
 returns : tie.Need-returns
 unfolding threeText
 returns c =
-    let z = c .before .before .before .before .before .before in
-    let y = z .before .before .before .before in
+    let y = c .before .before .before .before .before .before in
     let x = y .before .before .before .before in
-    let last = wrote-then (z .put-number3 .ensures) (c .before .before .put-byte .ensures) in
-    wrote-then (x .put-number .ensures) (wrote-then (y .put-number2 .ensures) last)
+    wrote-then (x .put-number .ensures) (wrote-then (y .put-number2 .ensures) (c .before .before .put-number3 .ensures))
 
 pub put-three-spec : {M : Type 1} → statement M
-put-three-spec =
-    tie.close
-    (tie.spec put-number-requires put-number-requires-2 put-number-requires-3 put-byte-requires (λ c. search needs) returns)
+put-three-spec = tie.close (tie.spec put-number-requires put-number-requires-2 put-number-requires-3 (λ c. search needs) returns)

@@ -3,7 +3,7 @@
 use native.Mathlib.Omega.{arith}
 use borrow.Author.Needs.{needs}
 use Rattle.report_lines.proofs.Lines.{none-is, most-is, whole-line}
-use Rattle.report_lines.proofs.Room.{three-room}
+use Rattle.report_lines.proofs.Room.{last-room}
 use Rattle.report_lines.proofs.write_most.Statement.{statement}
 use Rattle.report_lines.proofs.write_most.Tie as tie
 
@@ -18,22 +18,22 @@ returns c =
     let room = put-byte-requires (c .before .before .before) (i .before .before .κs) in
     whole-line (x .put-bytes .ensures) (put .ensures) (none-is _ (i .if1 .taken)) (omega arith) (put .kept .0)
 
-put-three-requires : tie.Need-put-three-requires
-put-three-requires c κs =
+put-last-three-requires : tie.Need-put-last-three-requires
+put-last-three-requires c κs =
     let x = c .before .before .before in
     let l = x .before .before .before .before .before .pre .1 in
-    three-room _ _ _ _ (omega arith) (omega arith) (omega arith) (omega (arith, x .put-bytes2 .ensures .is-end, x .put-bytes2 .kept .0))
+    last-room _ _ _ _ (omega arith) (omega arith) (omega arith) (omega (arith, x .put-bytes2 .ensures .is-end, x .put-bytes2 .kept .0))
 
 returns-2 : tie.Need-returns-2
 returns-2 c =
-    let three = c .before .before .put-three in
+    let three = c .before .before .put-last-three in
     let x = c .before .before .before .before .before .before in
     let i = x .before .before .before in
     whole-line (x .put-bytes2 .ensures) (three .ensures) (most-is _ (i .if1 .left))
-    (put-three-requires (c .before .before .before) (i .before .before .κs)) (three .kept .0)
+    (put-last-three-requires (c .before .before .before) (i .before .before .κs)) (three .kept .0)
 
 pub write-most-spec : {M : Type 1} → statement M
 write-most-spec =
     tie.close
     (tie.spec (λ c. search needs) (λ c κs. search needs) put-byte-requires (λ c. search needs) returns (λ c. search needs)
-    (λ c κs. search needs) put-three-requires (λ c. search needs) returns-2)
+    (λ c κs. search needs) put-last-three-requires (λ c. search needs) returns-2)
