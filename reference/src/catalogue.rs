@@ -1,9 +1,9 @@
-// Catalogues: those of stored runs, and random ones. Each sheet is preceded by a word with its length in words.
+// Catalogues: those of stored runs, two of 200 large sheets, and random ones. Each sheet is preceded by a word with its length in words.
 // It rests on corpus.rs and random/, and on cheapest.rs to put blocks on paths that just fit or just do not.
 
 use crate::cheapest::cheapest_ways;
 use crate::corpus::{
-    at_the_limits, encoded, hostile_headers, one_block, refusals, second_at_the_limits, second_examples, second_refusals,
+    at_the_limits, encoded, hostile_headers, longest_margins, one_block, refusals, second_at_the_limits, second_examples, second_refusals,
 };
 use crate::graph::{budgets_sheet, graph_sheet, paper_example, with_budgets, Graph};
 use crate::random::{
@@ -100,6 +100,18 @@ pub fn second_example() -> Vec<u8> {
     let mut bytes = encoded(&sheets);
     bytes.pop();
     bytes
+}
+
+/// 200 sheets at the limits of copies and edges, by turns of the first version and of the second with four budgets; `reference
+/// catalogue_full` writes them.
+pub fn full() -> Vec<u8> {
+    encoded(&[at_the_limits(4, false), second_at_the_limits(1, 4, false)]).repeat(100)
+}
+
+/// 200 sheets of 4,096 copies with margins of many characters, by turns with one budget and with four; `reference catalogue_long_lines`
+/// writes them.
+pub fn long_lines() -> Vec<u8> {
+    encoded(&[longest_margins(false), longest_margins(true)]).repeat(100)
 }
 
 /// A graph whose build is accepted, with up to 4 more blocks: out of reach, dead ends, loops with no way out, and blocks on a path

@@ -105,6 +105,29 @@ pub fn corpus(seed: u64, count: usize) -> Vec<Vec<u16>> {
     sheets
 }
 
+/// 128 blocks and 4,096 copies with much text in their margins: 128 `none`, 243 of three digits and 3,725 of two. With one budget, or with
+/// four: 10, 20, 30 and 500.
+///
+/// So many copies hardly have more. A block has `none` at most once, and its other margins add up to less than 500: unless some have one digit, at
+/// most 245 margins of the blocks from 3 on have three.
+pub fn longest_margins(second: bool) -> Vec<u16> {
+    let heads: Vec<u16> = (9..128).step_by(10).collect();
+    // Block 3 has every multiple of 10; block 4 all but the first, or the first four where there are three start copies more.
+    let mut costs = vec![0, 0, 10, if second { 40 } else { 10 }, 90, 90, 9, 1];
+    let mut successors = vec![[vec![3, 4, 5, 6, 8], heads.clone()].concat(), vec![], [vec![3, 2, 4, 8], heads].concat(), vec![3]];
+    // Block 5 has 100, 110, .. 500, block 6 has 100, 200, 210, .. 500, blocks 7 and 8 have 9, 109, 119, .. 499 and one more than these.
+    successors.extend([vec![3], vec![8], vec![2, 5], vec![7]]);
+    // Twelve rows of ten blocks: the last has 1, 101, 201, 211, .. 491, each before it one more, and so the first 10, 110, 210, .. 500.
+    for block in 9..=128 {
+        costs.push(1);
+        successors.push(if block % 10 == 8 { vec![2, 6] } else { vec![block + 1] });
+    }
+    if second {
+        return budgets_sheet(&costs, &successors, &[10, 20, 30, 500]);
+    }
+    graph_sheet(&costs, &successors, 500)
+}
+
 // The second version.
 
 /// The paper's example, the loop and the least graphs with several budgets: two, equal start copies, four with nothing for the first,

@@ -23,6 +23,8 @@ const USAGE: &str = "usage: reference listing < sheet
        reference catalogue SEED COUNT > catalogue
        reference catalogue_example > catalogue
        reference catalogue_second > catalogue
+       reference catalogue_full > catalogue
+       reference catalogue_long_lines > catalogue
        reference cases SEED COUNT tiny|small|any [KIND]";
 
 /// A kind of case: its name, and what makes one as fields of a line.
@@ -62,6 +64,8 @@ fn main() -> ExitCode {
             _ => return usage(),
         },
         ["catalogue_second"] => io::stdout().lock().write_all(&catalogue::second_example()),
+        ["catalogue_full"] => io::stdout().lock().write_all(&catalogue::full()),
+        ["catalogue_long_lines"] => io::stdout().lock().write_all(&catalogue::long_lines()),
         ["catalogue_example"] => io::stdout().lock().write_all(&catalogue::example()),
         ["catalogue", seed, count] => match (seed.parse(), count.parse()) {
             (Ok(seed), Ok(count)) => io::stdout().lock().write_all(&catalogue::catalogue(seed, count)),

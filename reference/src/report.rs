@@ -1,11 +1,13 @@
-// The report of a catalogue: figures of each sheet, totals, the greatest fraction of copies to blocks, the blocks that no kept path enters.
-// It rests on construction.rs for copies and edges, on cheapest.rs for the kept paths, and on requests K1 and K2 of document 02.
+// The report of a catalogue: figures and margins of each sheet, totals, the greatest fraction of copies to blocks, blocks that no kept path enters.
+// It rests on construction.rs for copies and edges, margins.rs, cheapest.rs for the kept paths, and requests K1, K2 and K5 of document 02.
 
+use crate::bounded::{filled_words, Bounded};
 use crate::cheapest::{cheapest_completions, cheapest_ways};
 use crate::construction::build;
 use crate::graph::Graph;
 use crate::header;
 use crate::listing::{LARGEST_AREA, LARGEST_OUTPUT};
+use crate::margins::margins;
 
 const MOST_SHEETS: usize = 200;
 
@@ -34,6 +36,8 @@ struct Figures {
     blocks: usize,
     copies: usize,
     edges: usize,
+    /// One for each copy, in order.
+    margins: Vec<Option<usize>>,
     unused: Vec<usize>,
 }
 
@@ -46,7 +50,9 @@ fn figures(sheet: Option<Vec<u16>>) -> Result<Figures, u16> {
     }
     let graph = Graph::read(&words)?;
     let (copies, edges) = header::sizes(&built.output);
-    Ok(Figures { blocks: graph.blocks, copies, edges, unused: blocks_not_entered(&graph) })
+    // No refusal: what a build fills keeps rule 11.
+    let sheet = Bounded::read(&built.output[..filled_words(&built.output)])?;
+    Ok(Figures { blocks: graph.blocks, copies, edges, margins: margins(&graph, &sheet), unused: blocks_not_entered(&graph) })
 }
 
 /// The blocks, rising, that no path from block 1 to block 2 costing at most B enters, where B is the largest budget: what a smaller
@@ -78,7 +84,14 @@ pub fn report(bytes: &[u8]) -> String {
         let place = index + 1;
         match figures(sheet) {
             Ok(of) => {
-                text += &format!("{} {} {} {}\n", place, of.blocks, of.copies, of.edges);
+                text += &format!("{} {} {} {}", place, of.blocks, of.copies, of.edges);
+                for margin in &of.margins {
+                    text += &match margin {
+                        Some(cycles) => format!(" {cycles}"),
+                        None => String::from(" none"),
+                    };
+                }
+                text += "\n";
                 accepted.push((place, of));
             }
             Err(number) => text += &format!("{place} refused {number}\n"),
