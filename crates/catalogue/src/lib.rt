@@ -10,7 +10,7 @@ ghost use Rattle.formats.specs.Limits.{mostSheets};
 ghost use Rattle.formats.specs.Report.{Figures};
 ghost use Rattle.file_words.specs.Longer.{longerFile};
 ghost use Rattle.digits.specs.Wrote.{Wrote};
-ghost use Rattle.report_lines.specs.Lines.{lineRoom};
+ghost use Rattle.sheet_lines.specs.Room.{sheetRoom};
 ghost use Rattle.unused_lines.specs.Room.{unusedRoom};
 ghost use Rattle.catalogue.specs.Standing.{Ready, Standing, Next};
 ghost use Rattle.catalogue.specs.Parts.{closingPart};
@@ -48,7 +48,7 @@ fn may_come(cut: bool, place: usize) -> bool
 pub fn next_sheet(bytes: &[u8], cut: bool, tally: Tally, marks: &mut [u8], text: &mut [u8]) -> Step
     requires { ⌜ length (now bytes) ≤ longerFile ⌝ }
     requires { ⌜ Ready tally (now marks) × (tally .place < mostSheets) ⌝ }
-    requires { ⌜ lineRoom ≤ length (now text) ⌝ }
+    requires { ⌜ sheetRoom ≤ length (now text) ⌝ }
     ensures { λ r. ⌜ Ready (r .tally) (now (marks .exit)) × (r .size ≤ length (now (text .exit))) × (tally .place < r .tally .place) ⌝ }
     ensures { λ r. ⌜ Next (now (bytes .entry)) cut tally (now (marks .entry)) r (now (marks .exit)) (now (text .entry)) (now (text .exit)) ⌝ }
 {

@@ -3,7 +3,7 @@
 use mathlib.Core.Path.{_≡_, refl, sym, ap, subst, _∙_}
 use mathlib.Core.Bool.{true, false}
 use mathlib.Core.List.{List, [], _∷_, _++_, append-assoc, append-nil}
-use Prim.Native.Nat.{ℕ, suc, _+_, _-_, _*_, _≤_, _<_}
+use Prim.Native.Nat.{ℕ, _+_, _-_, _*_, _≤_}
 use native.Mathlib.Omega.{arith}
 use lib.ListN.{length, take, length-append}
 use lib.Seq.{take-nil}
@@ -16,9 +16,10 @@ use Rattle.framing.specs.Feeding.{Closes, Handing}
 use Rattle.framing.proofs.Steps.{closed}
 
 -- nothing is handed back
-pub silent : {xs said text row marks : List ℕ} {at : ℕ} {p : Progress} → Came xs (said ++ take at text) p row marks
-    → Handing xs said text at (record { progress = p; size = at }) row marks text
-silent H = record { came = H; onward = omega arith; behind = refl }
+pub silent : {xs said text row marks : List ℕ} {p : Progress} → Came xs said p row marks
+    → Handing xs said text (record { progress = p; size = 0 }) row marks text
+silent {xs} {said} {row = row} {marks} {p} H =
+    record { came = subst (λ (w : List ℕ). Came xs w p row marks) (sym (append-nil said)) H; behind = refl }
 
 -- one byte behind a rest
 behind : {xs : List ℕ} (front rest : List ℕ) (b : ℕ) → xs ≡ front ++ rest → xs ++ (b ∷ []) ≡ front ++ (rest ++ (b ∷ []))
@@ -83,10 +84,10 @@ module _ {xs said : List ℕ} {s : Progress} {row marks : List ℕ} (H : Came xs
 
 -- A SHEET IS WHOLE
 
-module _ {xs said : List ℕ} {s : Progress} {row marks text : List ℕ} {at : ℕ} (H : Came xs (said ++ take at text) s row marks) (b : ℕ) (m : s .more ≡ true)
-    {bs : List ℕ} {r : Handed} {marks′ text′ : List ℕ} (C : Closes bs (s .tally) marks text at r marks′ text′) where
+module _ {xs said : List ℕ} {s : Progress} {row marks text : List ℕ} (H : Came xs said s row marks) (b : ℕ) (m : s .more ≡ true)
+    {bs : List ℕ} {r : Handed} {marks′ text′ : List ℕ} (C : Closes bs (s .tally) marks text r marks′ text′) where
   -- one of no words, with its length
-  pub empty-sheet : s .mode ≡ 1 → s .low + 256 * b ≡ 0 → bs ≡ [] → Handing (xs ++ (b ∷ [])) said text at r row marks′ text′
+  pub empty-sheet : s .mode ≡ 1 → s .low + 256 * b ≡ 0 → bs ≡ [] → Handing (xs ++ (b ∷ [])) said text r row marks′ text′
   empty-sheet h n e =
       closed C _ said (H .front) (H .bodies) (s .low) b [] row (H .sheets) (omega (arith, n)) (e ∙ sym (take-nil longerFile)) (H .going m .0)
       (behind (H .front) (H .rest) b (H .cut) ∙ ap (λ (w : List ℕ). H .front ++ (w ++ (b ∷ []))) (half-rest H b m h 0 (sym n) (H .rest) (H .going m .1)))
@@ -94,10 +95,10 @@ module _ {xs said : List ℕ} {s : Progress} {row marks text : List ℕ} {at : �
   -- the last byte of one
   module _ (z : s .mode ≡ 0 → ⊥) (h : s .mode ≡ 1 → ⊥) (count : ℕ) (row′ : List ℕ)
       (k : (ys : List ℕ) → take (s .count) row ≡ take (length row) ys → take count row′ ≡ take (length row′) (ys ++ (b ∷ []))) where
-    pub last-byte : s .left ≤ 1 → bs ≡ take count row′ → length row′ ≡ longerFile → Handing (xs ++ (b ∷ [])) said text at r row′ marks′ text′
+    pub last-byte : s .left ≤ 1 → bs ≡ take count row′ → length row′ ≡ longerFile → Handing (xs ++ (b ∷ [])) said text r row′ marks′ text′
     last-byte l e n = go (H .rest) (H .going m .1) (H .cut)
       where
-        go : (rest : List ℕ) → Rest row s rest → xs ≡ H .front ++ rest → Handing (xs ++ (b ∷ [])) said text at r row′ marks′ text′
+        go : (rest : List ℕ) → Rest row s rest → xs ≡ H .front ++ rest → Handing (xs ++ (b ∷ [])) said text r row′ marks′ text′
         go rest (between y) c = absurd (z y)
         go rest (half y) c = absurd (h y)
         go rest (within x y body u v w q) c =

@@ -1,21 +1,19 @@
-// The sheets of a catalogue, each behind its length, as their bytes come: a byte more, and the line of each sheet that it makes whole.
-// Rests on catalogue, kept and file_words; what the state and the rows stand for is specs Came. Below stream.
+// The sheets of a catalogue, each behind its length, as their bytes come: a byte more, and the line of the sheet that it makes whole.
+// Rests on catalogue, kept and file_words; what the state and the rows stand for is specs Came. Below stream and the report program.
 ghost use mathlib.Core.Path.{_≡_};
-ghost use mathlib.Core.Bool.{true, _&&_, not};
-ghost use mathlib.Core.List.{List, [], _∷_};
-ghost use Prim.Native.Nat.{ℕ, _+_, _*_, _≤_, _<_};
-ghost use lib.Dec.{ltb};
+ghost use mathlib.Core.Bool.{true};
+ghost use mathlib.Core.List.{List, []};
+ghost use Prim.Native.Nat.{ℕ, _*_, _≤_, _<_};
 ghost use lib.ListN.{length};
 ghost use Rattle.formats.specs.Limits.{mostBlocks, mostSheets};
 ghost use Rattle.file_words.specs.Longer.{longerFile};
-ghost use Rattle.report_lines.specs.Lines.{lineRoom};
+ghost use Rattle.sheet_lines.specs.Room.{sheetRoom};
 ghost use Rattle.catalogue.specs.Standing.{Ready};
 ghost use Rattle.framing.specs.Came.{Came};
-ghost use Rattle.framing.specs.Feeding.{Able, Room, Line, Closes, Turns};
+ghost use Rattle.framing.specs.Feeding.{Able, Closes, Feeds};
 use catalogue::next_sheet;
 use file_words::joined;
 use kept::keep_byte;
-use report_lines::LINE_SIZE;
 use tally::Tally;
 
 // The modes: no byte of a length came, its first did, or a sheet's bytes come.
@@ -36,14 +34,7 @@ pub struct Progress {
     pub count: usize,
 }
 
-// A tally with one sheet more, whether another may come, and the end of what is written.
-pub struct Ended {
-    pub tally: Tally,
-    pub more: bool,
-    pub size: usize,
-}
-
-// How far it came with the next bytes, and the length of the text that is handed back.
+// How far it came with the next byte, and the length of the text that is handed back.
 pub struct Handed {
     pub progress: Progress,
     pub size: usize,
@@ -65,42 +56,16 @@ pub fn begin() -> Progress
     }
 }
 
-// Writes the line of the next sheet, from its first bytes and whether the input ended before the sheet.
-pub fn next_line(
-    bytes: &[u8],
-    cut: bool,
-    tally: Tally,
-    marks: &mut [u8],
-    text: &mut [u8],
-    at: usize,
-) -> Ended
-    requires { ⌜ length (now bytes) ≤ longerFile ⌝ }
-    requires { ⌜ Ready tally (now marks) × (tally .place < mostSheets) ⌝ }
-    requires { ⌜ at + lineRoom ≤ length (now text) ⌝ }
-    ensures { λ r. ⌜ Ready (r .tally) (now (marks .exit)) × (tally .place < r .tally .place) × (r .size ≤ at + lineRoom) ⌝ }
-    ensures { λ r. ⌜ r .more ≡ (not cut && ltb (r .tally .place) mostSheets) ⌝ }
-    ensures { λ r. ⌜ Line (now (bytes .entry)) cut tally (now (marks .entry)) (now (text .entry)) at r (now (marks .exit)) (now (text .exit)) ⌝ }
-{
-    let end = at + LINE_SIZE;
-    let r = next_sheet(bytes, cut, tally, marks, &mut text[at..end]);
-    let next = r.tally;
-    Ended {
-        tally: next,
-        more: r.more,
-        size: at + r.size,
-    }
-}
-
 // A sheet is whole: its line, and what comes then is the next length.
-fn whole_sheet(bytes: &[u8], tally: Tally, marks: &mut [u8], text: &mut [u8], at: usize) -> Handed
+fn whole_sheet(bytes: &[u8], tally: Tally, marks: &mut [u8], text: &mut [u8]) -> Handed
     requires { ⌜ length (now bytes) ≤ longerFile ⌝ }
     requires { ⌜ Ready tally (now marks) × (tally .place < mostSheets) ⌝ }
-    requires { ⌜ Room tally at (now text) ⌝ }
+    requires { ⌜ sheetRoom ≤ length (now text) ⌝ }
     ensures { λ r. ⌜ ((row : List ℕ) → length row ≡ longerFile → Able (r .progress) row (now (marks .exit)))
-        × Room (r .progress .tally) (r .size) (now (text .exit)) ⌝ }
-    ensures { λ r. ⌜ Closes (now (bytes .entry)) tally (now (marks .entry)) (now (text .entry)) at r (now (marks .exit)) (now (text .exit)) ⌝ }
+        × (r .size ≤ length (now (text .exit))) ⌝ }
+    ensures { λ r. ⌜ Closes (now (bytes .entry)) tally (now (marks .entry)) (now (text .entry)) r (now (marks .exit)) (now (text .exit)) ⌝ }
 {
-    let e = next_line(bytes, false, tally, marks, text, at);
+    let e = next_sheet(bytes, false, tally, marks, text);
     let next = e.tally;
     let p = Progress {
         tally: next,
@@ -117,24 +82,17 @@ fn whole_sheet(bytes: &[u8], tally: Tally, marks: &mut [u8], text: &mut [u8], at
 }
 
 // A byte of a sheet; the last one makes it whole.
-fn sheet_byte(
-    s: Progress,
-    b: u8,
-    row: &mut [u8],
-    marks: &mut [u8],
-    text: &mut [u8],
-    at: usize,
-) -> Handed
+fn sheet_byte(s: Progress, b: u8, row: &mut [u8], marks: &mut [u8], text: &mut [u8]) -> Handed
     requires { ⌜ Able s (now row) (now marks) × (s .tally .place < mostSheets) ⌝ }
-    requires { ⌜ Room (s .tally) at (now text) ⌝ }
-    ensures { λ r. ⌜ Able (r .progress) (now (row .exit)) (now (marks .exit)) × Room (r .progress .tally) (r .size) (now (text .exit)) ⌝ }
+    requires { ⌜ sheetRoom ≤ length (now text) ⌝ }
+    ensures { λ r. ⌜ Able (r .progress) (now (row .exit)) (now (marks .exit)) × (r .size ≤ length (now (text .exit))) ⌝ }
     ensures { λ r. ⌜ (s .more ≡ true → (s .mode ≡ 0 → ⊥) → (s .mode ≡ 1 → ⊥)
-        → Turns (b ∷ []) s (now (row .entry)) (now (marks .entry)) (now (text .entry)) at r (now (row .exit)) (now (marks .exit)) (now (text .exit))) ⌝ }
+        → Feeds b s (now (row .entry)) (now (marks .entry)) (now (text .entry)) r (now (row .exit)) (now (marks .exit)) (now (text .exit))) ⌝ }
 {
     let count = keep_byte(row, s.count, b);
     let tally = s.tally;
     if s.left <= 1 {
-        return whole_sheet(&row[..count], tally, marks, text, at);
+        return whole_sheet(&row[..count], tally, marks, text);
     }
     let p = Progress {
         tally: tally,
@@ -146,29 +104,22 @@ fn sheet_byte(
     };
     Handed {
         progress: p,
-        size: at,
+        size: 0,
     }
 }
 
 // A length's second byte; a sheet of no words is whole with it.
-fn length_byte(
-    s: Progress,
-    b: u8,
-    row: &[u8],
-    marks: &mut [u8],
-    text: &mut [u8],
-    at: usize,
-) -> Handed
+fn length_byte(s: Progress, b: u8, row: &[u8], marks: &mut [u8], text: &mut [u8]) -> Handed
     requires { ⌜ Able s (now row) (now marks) × (s .tally .place < mostSheets) ⌝ }
-    requires { ⌜ Room (s .tally) at (now text) ⌝ }
-    ensures { λ r. ⌜ Able (r .progress) (now (row .entry)) (now (marks .exit)) × Room (r .progress .tally) (r .size) (now (text .exit)) ⌝ }
+    requires { ⌜ sheetRoom ≤ length (now text) ⌝ }
+    ensures { λ r. ⌜ Able (r .progress) (now (row .entry)) (now (marks .exit)) × (r .size ≤ length (now (text .exit))) ⌝ }
     ensures { λ r. ⌜ (s .more ≡ true → s .mode ≡ 1
-        → Turns (b ∷ []) s (now (row .entry)) (now (marks .entry)) (now (text .entry)) at r (now (row .entry)) (now (marks .exit)) (now (text .exit))) ⌝ }
+        → Feeds b s (now (row .entry)) (now (marks .entry)) (now (text .entry)) r (now (row .entry)) (now (marks .exit)) (now (text .exit))) ⌝ }
 {
     let n = joined(s.low, b);
     let tally = s.tally;
     if n == 0 {
-        return whole_sheet(&row[..0], tally, marks, text, at);
+        return whole_sheet(&row[..0], tally, marks, text);
     }
     let p = Progress {
         tally: tally,
@@ -180,24 +131,17 @@ fn length_byte(
     };
     Handed {
         progress: p,
-        size: at,
+        size: 0,
     }
 }
 
 // The next byte, where another sheet may come.
-fn next_byte(
-    s: Progress,
-    b: u8,
-    row: &mut [u8],
-    marks: &mut [u8],
-    text: &mut [u8],
-    at: usize,
-) -> Handed
+fn next_byte(s: Progress, b: u8, row: &mut [u8], marks: &mut [u8], text: &mut [u8]) -> Handed
     requires { ⌜ Able s (now row) (now marks) × (s .tally .place < mostSheets) ⌝ }
-    requires { ⌜ Room (s .tally) at (now text) ⌝ }
-    ensures { λ r. ⌜ Able (r .progress) (now (row .exit)) (now (marks .exit)) × Room (r .progress .tally) (r .size) (now (text .exit)) ⌝ }
+    requires { ⌜ sheetRoom ≤ length (now text) ⌝ }
+    ensures { λ r. ⌜ Able (r .progress) (now (row .exit)) (now (marks .exit)) × (r .size ≤ length (now (text .exit))) ⌝ }
     ensures { λ r. ⌜ (s .more ≡ true
-        → Turns (b ∷ []) s (now (row .entry)) (now (marks .entry)) (now (text .entry)) at r (now (row .exit)) (now (marks .exit)) (now (text .exit))) ⌝ }
+        → Feeds b s (now (row .entry)) (now (marks .entry)) (now (text .entry)) r (now (row .exit)) (now (marks .exit)) (now (text .exit))) ⌝ }
 {
     if s.mode == BETWEEN {
         let tally = s.tally;
@@ -211,35 +155,28 @@ fn next_byte(
         };
         return Handed {
             progress: p,
-            size: at,
+            size: 0,
         };
     }
     if s.mode == HALF {
-        return length_byte(s, b, row, marks, text, at);
+        return length_byte(s, b, row, marks, text);
     }
-    sheet_byte(s, b, row, marks, text, at)
+    sheet_byte(s, b, row, marks, text)
 }
 
 // The next byte; none matters where no sheet may come.
-pub fn feed_byte(
-    s: Progress,
-    b: u8,
-    row: &mut [u8],
-    marks: &mut [u8],
-    text: &mut [u8],
-    at: usize,
-) -> Handed
+pub fn feed_byte(s: Progress, b: u8, row: &mut [u8], marks: &mut [u8], text: &mut [u8]) -> Handed
     requires { ⌜ Able s (now row) (now marks) ⌝ }
-    requires { ⌜ Room (s .tally) at (now text) ⌝ }
-    ensures { λ r. ⌜ Able (r .progress) (now (row .exit)) (now (marks .exit)) × Room (r .progress .tally) (r .size) (now (text .exit)) ⌝ }
-    ensures { λ r. ⌜ Turns (b ∷ []) s (now (row .entry)) (now (marks .entry)) (now (text .entry)) at r
+    requires { ⌜ sheetRoom ≤ length (now text) ⌝ }
+    ensures { λ r. ⌜ Able (r .progress) (now (row .exit)) (now (marks .exit)) × (r .size ≤ length (now (text .exit))) ⌝ }
+    ensures { λ r. ⌜ Feeds b s (now (row .entry)) (now (marks .entry)) (now (text .entry)) r
         (now (row .exit)) (now (marks .exit)) (now (text .exit)) ⌝ }
 {
     if s.more {
-        return next_byte(s, b, row, marks, text, at);
+        return next_byte(s, b, row, marks, text);
     }
     Handed {
         progress: s,
-        size: at,
+        size: 0,
     }
 }

@@ -1,7 +1,7 @@
-// The report program: reads standard input piece by piece, feeds it, and writes what is handed back (document 02, K1).
-// Rests on input and stream, where the text is made; this decides nothing but when to stop: at the end, at a failure, or where no sheet may come.
+// The report program: reads standard input piece by piece, feeds each byte, and writes what is handed back (document 02, K1).
+// Rests on input, framing and stream, where the text is made; this decides nothing but when to stop: at the end, at a failure, or where no sheet may come.
 ghost use Prim.Native.Nat.{_<_, _*_};
-ghost use mathlib.Core.Bool.{true};
+ghost use mathlib.Core.Bool.{true, false};
 ghost use mathlib.Core.Path.{_≡_};
 ghost use lib.ListN.{length};
 ghost use Rattle.formats.specs.Limits.{mostBlocks, mostSheets};
@@ -9,16 +9,16 @@ ghost use Rattle.file_words.specs.Longer.{longerFile};
 ghost use Rattle.catalogue.specs.Standing.{Ready};
 ghost use Rattle.framing.specs.Feeding.{Able};
 ghost use Rattle.stream.specs.Ending.{Closable};
+ghost use Rattle.reporting.specs.Taken.{Takes};
 use catalogue::MARKS;
 use file_words::LONGER_FILE;
 use framing::Progress;
 use framing::begin;
+use framing::feed_byte;
 use input::read_piece;
 use libc::STDOUT_FILENO;
-use report_lines::LINE_SIZE;
+use sheet_lines::LINE_SIZE;
 use stream::Closing;
-use stream::LINES_SIZE;
-use stream::feed;
 use stream::finish;
 use stream::next_part;
 use unused_lines::UNUSED_SIZE;
@@ -38,19 +38,30 @@ fn print(text: &[u8]) -> bool {
     done
 }
 
-// Feeds the next bytes, and writes what is handed back.
+// Feeds the next bytes, and writes what is handed back for each.
 fn feed_piece(s: Progress, bytes: &[u8], row: &mut [u8], marks: &mut [u8]) -> Reading
     requires { ⌜ Able s (now row) (now marks) ⌝ }
     ensures { λ r. ⌜ Able (r .progress) (now (row .exit)) (now (marks .exit)) ⌝ }
+    ensures { λ r. ⌜ (r .failed ≡ false → Takes (now (bytes .entry)) s (now (row .entry)) (now (marks .entry)) (r .progress) (now (row .exit)) (now (marks .exit))) ⌝ }
 {
-    let mut text = [0u8; LINES_SIZE];
-    let h = feed(s, bytes, row, marks, &mut text);
-    let size = h.size;
-    let done = print(&text[..size]);
-    let next = h.progress;
+    let mut text = [0u8; LINE_SIZE];
+    let mut p = s;
+    let mut i = 0;
+    while i < bytes.len() {
+        let h = feed_byte(p, bytes[i], row, marks, &mut text);
+        p = h.progress;
+        let size = h.size;
+        if !print(&text[..size]) {
+            return Reading {
+                progress: p,
+                failed: true,
+            };
+        }
+        i += 1;
+    }
     Reading {
-        progress: next,
-        failed: !done,
+        progress: p,
+        failed: false,
     }
 }
 

@@ -1,14 +1,14 @@
 -- The end of the input: all sheets are the whole ones and, where a length and fewer bytes are the rest, one that is cut.
--- Rests on base Truth, formats Limits, File, Catalogue and Report, calls Report, digits Wrote, catalogue Standing and Whole, framing Came, Feeding and Steps, Ending, Catalogues, Parts.
+-- Rests on base Truth, formats Limits, File, Catalogue and Report, calls Report, digits Wrote, catalogue Standing, Parts and Whole, framing Came and Steps, Ending, Catalogues, Parts.
 use mathlib.Core.Path.{_≡_, refl, sym, ap, subst, _∙_}
 use mathlib.Core.Bool.{true, false}
 use mathlib.Core.List.{List, [], _∷_, _++_, map, append-assoc, append-nil}
 use mathlib.Core.Option.{Option, some, none}
-use Prim.Native.Nat.{ℕ, zero, suc, _+_, _-_, _≤_, _<_}
+use Prim.Native.Nat.{ℕ, suc, _+_, _-_, _<_}
 use native.Mathlib.Omega.{arith}
 use borrow.Author.Tests.{lt-ltb, ltb-false}
 use lib.Dec.{ltb}
-use lib.ListN.{length, take, drop}
+use lib.ListN.{length}
 use Rattle.base.specs.Lists.{each, from}
 use Rattle.base.proofs.Truth.{not-both}
 use Rattle.formats.specs.Limits.{mostSheets}
@@ -17,14 +17,12 @@ use Rattle.formats.specs.Catalogue.{sheets, sheetsUpTo}
 use Rattle.formats.specs.Report.{Figures, sheetLine, eachSheet, reportOf}
 use Rattle.calls.specs.Report.{figures, report}
 use Rattle.digits.specs.Wrote.{Wrote}
-use Rattle.tally.specs.declared.Tally.{Tally}
-use Rattle.catalogue.specs.Standing.{Standing, beyond}
+use Rattle.catalogue.specs.declared.Step.{Step}
+use Rattle.catalogue.specs.Standing.{Standing, beyond, Next}
 use Rattle.catalogue.specs.Parts.{closingPart}
 use Rattle.catalogue.proofs.Whole.{by-parts}
 use Rattle.framing.specs.declared.Progress.{Progress}
-use Rattle.framing.specs.declared.Ended.{Ended}
 use Rattle.framing.specs.Came.{figuresOf, Rest, between, half, within, Came}
-use Rattle.framing.specs.Feeding.{Line}
 use Rattle.stream.specs.declared.Closing.{Closing}
 use Rattle.stream.specs.Ending.{allFigures, Listed, Closed, Parting}
 use Rattle.stream.proofs.Catalogues.{sheetsOf, cut-sheet, no-sheet, half-sheet, whole-sheets}
@@ -81,30 +79,32 @@ module _ {xs said : List ℕ} {s : Progress} {row marks : List ℕ} (H : Came xs
 
   -- THE LINES OF ALL SHEETS
 
-  pub listed-none : {text : List ℕ} {more : _} → allFigures xs ≡ figuresOf (H .bodies)
-      → Listed xs said text (record { tally = s .tally; more = more; size = 0 }) marks text
+  pub listed-none : {text : List ℕ} → allFigures xs ≡ figuresOf (H .bodies)
+      → Listed xs said text (record { tally = s .tally; size = 0; more = false }) marks text
   listed-none e =
       record {
         stands = subst (λ (fs : List Figures). Standing fs (s .tally) marks) (sym e) (H .sheets .stands);
         lines = append-nil said ∙ H .sheets .lines ∙ ap (eachSheet sheetLine 1) (sym e);
+        last = refl;
         behind = refl;
       }
 
-  pub listed-cut : {bs text : List ℕ} {r : Ended} {marks′ text′ : List ℕ} → Line bs true (s .tally) marks text 0 r marks′ text′
+  pub listed-cut : {bs text : List ℕ} {r : Step} {marks′ text′ : List ℕ} → Next bs true (s .tally) marks r marks′ text text′
       → allFigures xs ≡ figuresOf (H .bodies) ++ (figures none ∷ []) → Listed xs said text r marks′ text′
-  listed-cut {r = r} {marks′} L e =
+  listed-cut {r = r} {marks′} N e =
       let D = H .sheets .stands in
       let fs = figuresOf (H .bodies) in
-      let W = L .line fs none D beyond in
+      let W = N .line fs none D beyond in
       record {
-        stands = subst (λ (gs : List Figures). Standing gs (r .tally) marks′) (sym e) (L .stands fs none D beyond);
-        lines = line-behind said [] fs (figures none) (append-nil said ∙ H .sheets .lines) (W .front) ∙ ap (eachSheet sheetLine 1) (sym e);
+        stands = subst (λ (gs : List Figures). Standing gs (r .tally) marks′) (sym e) (N .after fs none D beyond);
+        lines = line-behind fs (figures none) (H .sheets .lines) (W .front) ∙ ap (eachSheet sheetLine 1) (sym e);
+        last = N .more;
         behind = W .behind;
       }
 
 -- THE CLOSING PARTS
 
-pub closed-first : {xs said text mid : List ℕ} {r : Ended} {marks : List ℕ} → Listed xs said text r marks mid
+pub closed-first : {xs said text mid : List ℕ} {r : Step} {marks : List ℕ} → Listed xs said text r marks mid
     → Parting xs said text (record { closing = record { tally = r .tally; next = 0; more = true }; size = r .size }) marks mid
 unfolding each from
 closed-first {xs} {r = r} L =

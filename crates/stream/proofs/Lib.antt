@@ -2,9 +2,7 @@
 pub mod Catalogues
 -- the end of the input: full-figures, none-cut, one-cut, listed-none, listed-cut, closed-first, closed-next, closed-report, ignored-rest
 pub mod Ends
--- byte by byte: handing-none, handing-next, handing-all
-pub mod Bytes
 -- one part more behind the first k: parts-next
 pub mod Parts
--- FOR EVERY WAY OF CUTTING A CATALOGUE: pieces-reported, nothing-missed
-pub mod Pieces
+-- FOR EVERY CATALOGUE, byte by byte: bytes-reported, nothing-missed
+pub mod Bytes

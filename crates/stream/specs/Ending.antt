@@ -1,7 +1,7 @@
--- What `feed`, `finish` and `next_part` promise: the next bytes, the end, a closing part more.
--- Rests on base Lists, formats File, Catalogue and Report, calls Report, catalogue Standing and Parts, framing Came and Feeding.
+-- What `finish` and `next_part` promise: the end of the input, a closing part more.
+-- Rests on base Lists, formats File, Catalogue and Report, calls Report, catalogue Standing and Parts, framing Came.
 use mathlib.Core.Path.{_≡_}
-use mathlib.Core.Bool.{true}
+use mathlib.Core.Bool.{true, false}
 use mathlib.Core.List.{List, _++_, map}
 use Prim.Native.Nat.{ℕ, _+_, _≤_, _<_}
 use lib.Dec.{ltb}
@@ -11,13 +11,11 @@ use Rattle.formats.specs.File.{wordsOf}
 use Rattle.formats.specs.Catalogue.{sheets}
 use Rattle.formats.specs.Report.{Figures, sheetLine, eachSheet}
 use Rattle.calls.specs.Report.{figures}
+use Rattle.catalogue.specs.declared.Step.{Step}
 use Rattle.catalogue.specs.Standing.{Ready, Standing}
 use Rattle.catalogue.specs.Parts.{closingPart}
 use Rattle.framing.specs.declared.Progress.{Progress}
-use Rattle.framing.specs.declared.Handed.{Handed}
-use Rattle.framing.specs.declared.Ended.{Ended}
 use Rattle.framing.specs.Came.{Came}
-use Rattle.framing.specs.Feeding.{Handing}
 use Rattle.stream.specs.declared.Closing.{Closing}
 use Rattle.stream.specs.declared.Part.{Part}
 
@@ -25,18 +23,14 @@ use Rattle.stream.specs.declared.Part.{Part}
 abbrev pub allFigures : List ℕ → List Figures
 allFigures xs = map figures (sheets (wordsOf xs))
 
--- THE NEXT BYTES
-abbrev pub Feeds : List ℕ → Progress → List ℕ → List ℕ → List ℕ → Handed → List ℕ → List ℕ → List ℕ → Type 0
-Feeds bytes s row marks text r row′ marks′ text′ =
-    (xs said : List ℕ) → Came xs said s row marks → Handing (xs ++ bytes) said text 0 r row′ marks′ text′
-
--- the lines of all sheets, with that of one that is cut, if there is one
-pub record Listed (xs said text : List ℕ) (r : Ended) (marks after : List ℕ) : Type 0 where
+-- the lines of all sheets, with that of one that is cut, if there is one; no other may come
+pub record Listed (xs said text : List ℕ) (r : Step) (marks after : List ℕ) : Type 0 where
   pub stands : Standing (allFigures xs) (r .tally) marks
   pub lines : said ++ take (r .size) after ≡ eachSheet sheetLine 1 (allFigures xs)
+  pub last : r .more ≡ false
   pub behind : drop (r .size) after ≡ drop (r .size) text
 
-abbrev pub Lists : Progress → List ℕ → List ℕ → Ended → List ℕ → List ℕ → Type 0
+abbrev pub Lists : Progress → List ℕ → List ℕ → Step → List ℕ → List ℕ → Type 0
 Lists s marks text r marks′ text′ = (xs said row : List ℕ) → Came xs said s row marks → Listed xs said text r marks′ text′
 
 -- the marks are as many as they must be, and where there is a next closing part it is one of those of the sheets

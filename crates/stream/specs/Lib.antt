@@ -1,2 +1,2 @@
--- what feeding and ending promise: allFigures, Feeds, Listed, Lists, Closable, Closed, Parting, Finishes, Parts
+-- what the end of the input and a closing part promise: allFigures, Listed, Lists, Closable, Closed, Parting, Finishes, Parts
 pub mod Ending

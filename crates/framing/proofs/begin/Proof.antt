@@ -5,7 +5,6 @@ use mathlib.Core.Path.{refl}
 use native.Mathlib.Omega.{arith}
 use Rattle.catalogue.proofs.Stands.{stands-first}
 use Rattle.framing.proofs.Steps.{came-first}
-use borrow.Author.Needs.{needs}
 use Rattle.framing.proofs.begin.Statement.{statement}
 use Rattle.framing.proofs.begin.Tie as tie
 

@@ -1,8 +1,8 @@
 -- A byte where another sheet may come, or one that does not matter.
 -- Rests on Turns.
 use borrow.Author.Needs.{needs}
+use native.Mathlib.Omega.{arith}
 use Rattle.framing.proofs.Turns.{silent, ignored}
-use borrow.Author.Needs.{needs}
 use Rattle.framing.proofs.feed_byte.Statement.{statement}
 use Rattle.framing.proofs.feed_byte.Tie as tie
 
@@ -18,7 +18,7 @@ returns c =
     (n .next-byte .ensures .0, n .next-byte .ensures .1 (n .before .before .before .before .if1 .taken))
 
 returns-2 : tie.Need-returns-2
-returns-2 c = let z = c .before .before .before .before in ((z .pre .0, z .pre .1), λ xs said H. silent (ignored H _ (c .if1 .left)))
+returns-2 c = ((c .before .before .before .before .pre .0, omega arith), λ xs said H. silent (ignored H _ (c .if1 .left)))
 
 pub feed-byte-spec : {M : Type 1} → statement M
 feed-byte-spec =

@@ -4,7 +4,6 @@ use borrow.Author.Needs.{needs}
 use mathlib.Core.Path.{refl, sym, _∙_}
 use native.Mathlib.Omega.{arith}
 use Rattle.framing.proofs.Turns.{silent, second-byte, empty-sheet}
-use borrow.Author.Needs.{needs}
 use Rattle.framing.proofs.length_byte.Statement.{statement}
 use Rattle.framing.proofs.length_byte.Tie as tie
 
@@ -22,7 +21,7 @@ returns-2 : tie.Need-returns-2
 returns-2 c =
     let z = c .before .before .before .before .before .before in
     let A = z .pre .0 .0 in (
-      (record { ready = A .ready; size = A .size; kept = omega arith; next = A .next }, z .pre .1),
+      (record { ready = A .ready; size = A .size; kept = omega arith; next = A .next }, omega arith),
       λ m h xs said H. silent (second-byte H _ m h _ (c .before .before .joined .ensures) (c .if1 .left)),
     )
 

@@ -1,8 +1,8 @@
 -- By how far the catalogue came.
 -- Rests on Turns.
 use borrow.Author.Needs.{needs}
+use native.Mathlib.Omega.{arith}
 use Rattle.framing.proofs.Turns.{silent, first-byte}
-use borrow.Author.Needs.{needs}
 use Rattle.framing.proofs.next_byte.Statement.{statement}
 use Rattle.framing.proofs.next_byte.Tie as tie
 
@@ -10,7 +10,7 @@ returns : tie.Need-returns
 returns c =
     let z = c .before .before .before .before .before .before in
     let A = z .pre .0 .0 in (
-      (record { ready = A .ready; size = A .size; kept = A .kept; next = A .next }, z .pre .1),
+      (record { ready = A .ready; size = A .size; kept = A .kept; next = A .next }, omega arith),
       λ m xs said H. silent (first-byte H _ m (c .before .if1 .taken)),
     )
 

@@ -8,7 +8,6 @@ use lib.Seq.{length-take-le}
 use Rattle.base.proofs.Lists.{take-most}
 use Rattle.file_words.specs.Longer.{longerFile}
 use Rattle.framing.proofs.Turns.{silent, sheet-byte, last-byte}
-use borrow.Author.Needs.{needs}
 use Rattle.framing.proofs.sheet_byte.Statement.{statement}
 use Rattle.framing.proofs.sheet_byte.Tie as tie
 
@@ -40,7 +39,7 @@ returns-2 c =
     let k = c .before .before .before .before .before .before .keep-byte in
     let z = c .before .before .before .before .before .before .before .before .before .before .before in
     let A = z .pre .0 .0 in (
-      (record { ready = A .ready; size = k .kept .0 ∙ A .size; kept = k .ensures .0; next = A .next }, z .pre .1),
+      (record { ready = A .ready; size = k .kept .0 ∙ A .size; kept = k .ensures .0; next = A .next }, omega arith),
       λ m y h xs said H. silent (sheet-byte H _ m y h (k .ensures .1) (λ l. omega (arith, l, c .before .if1 .left))),
     )
 

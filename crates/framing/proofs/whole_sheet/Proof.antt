@@ -1,28 +1,22 @@
--- A line more; the room shrinks by one.
--- Rests on formats Limits, specs Feeding.
+-- The sheet's line; what comes then is a length.
+-- Rests on formats Limits, catalogue `next_sheet`, specs Feeding.
 use borrow.Author.Needs.{needs}
 use mathlib.Core.Path.{refl, sym, _∙_}
 use native.Mathlib.Omega.{arith}
 use borrow.Author.Tests.{ltb-true}
 use Rattle.formats.specs.Limits.{mostSheets}
-use borrow.Author.Needs.{needs}
 use Rattle.framing.proofs.whole_sheet.Statement.{statement}
 use Rattle.framing.proofs.whole_sheet.Tie as tie
 
-next-line-requires : tie.Need-next-line-requires
-next-line-requires c κs = let z = c .before .before .before .before .before in (z .pre .0, (z .pre .1 .0, omega (arith, z .pre .1 .1, z .pre .1 .0 .1)))
-
 returns : tie.Need-returns
 returns c =
-    let n = c .before .before .before .before .before .next-line in
-    let z = c .before .before .before .before .before .before .before .before .before .before .before in (
+    let n = c .before .before .before .before .before .next-sheet .ensures in (
       (
-        λ row l.
-            record { ready = n .ensures .0 .0; size = l; kept = omega arith; next = λ e. ltb-true _ mostSheets (sym (n .ensures .1 .0) ∙ e) },
-        omega (arith, n .ensures .0 .0 .most, n .ensures .0 .1, n .ensures .0 .2, z .pre .1 .1, n .kept .1 .1 .1 .1 .0),
+        λ row l. record { ready = n .0 .0; size = l; kept = omega arith; next = λ e. ltb-true _ mostSheets (sym (n .1 .more) ∙ e) },
+        omega (arith, n .0 .1),
       ),
-      record { line = n .ensures .1 .1; more = n .ensures .1 .0; mode = refl },
+      record { line = n .1; mode = refl },
     )
 
 pub whole-sheet-spec : {M : Type 1} → statement M
-whole-sheet-spec = tie.close (tie.spec next-line-requires (λ c. search needs) (λ c. search needs) returns)
+whole-sheet-spec = tie.close (tie.spec (λ c κs. search needs) (λ c. search needs) (λ c. search needs) returns)

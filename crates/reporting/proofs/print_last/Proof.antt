@@ -5,7 +5,6 @@ use mathlib.Core.Path.{sym}
 use native.Mathlib.Omega.{arith}
 use lib.ListN.{length-replicate}
 use lib.Seq.{length-take-le}
-use borrow.Author.Needs.{needs}
 use Rattle.reporting.proofs.print_last.Statement.{statement}
 use Rattle.reporting.proofs.print_last.Tie as tie
 

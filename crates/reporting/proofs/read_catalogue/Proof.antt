@@ -29,7 +29,7 @@ loop-again c =
     let read-piece = c .before .before .before .before .before .before .before .before .before .before .before .before .read-piece in
     let f = c .before .before .before .before .before .before .feed-piece in
     let l = c .before .before .before .before .before .before .before .before .before .before .before .before .before .before .before .before .before .loop in
-    (f .kept .1 .1 .0 ∙ l .inv .0, f .kept .1 .1 .1 .0 ∙ l .inv .1, omega (arith, l .inv .2, read-piece .kept), f .ensures)
+    (f .kept .1 .1 .0 ∙ l .inv .0, f .kept .1 .1 .1 .0 ∙ l .inv .1, omega (arith, l .inv .2, read-piece .kept), f .ensures .0)
 
 same-length : tie.Need-same-length Inv-loop μ-loop
 same-length c = c .before .loop .inv .0
@@ -71,7 +71,7 @@ same-length-8 c =
     feed-piece .kept .1 .1 .1 .0 ∙ loop .inv .1
 
 returns-4 : tie.Need-returns-4 Inv-loop μ-loop
-returns-4 c = c .before .before .before .before .before .before .feed-piece .ensures
+returns-4 c = c .before .before .before .before .before .before .feed-piece .ensures .0
 
 pub read-catalogue-spec : {M : Type 1} → statement M
 read-catalogue-spec =

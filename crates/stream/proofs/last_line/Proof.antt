@@ -3,7 +3,6 @@
 use borrow.Author.Needs.{needs}
 use Rattle.stream.proofs.Ends.{full-figures, listed-none}
 use native.Mathlib.Omega.{arith}
-use borrow.Author.Needs.{needs}
 use Rattle.stream.proofs.last_line.Statement.{statement}
 use Rattle.stream.proofs.last_line.Tie as tie
 
@@ -12,9 +11,8 @@ cut-line-requires c κs = let z = c .before .before .before .before .before in (
 
 returns : tie.Need-returns
 returns c =
-    let cut-line = c .before .before .before .before .cut-line in
-    let if1 = c .before .before .before .before .before .before .before .if1 in
-    let n = cut-line in (n .ensures .0, n .ensures .1 (if1 .taken))
+    let n = c .before .before .before .before .cut-line .ensures in
+    (n .0, n .1 (c .before .before .before .before .before .before .before .if1 .taken))
 
 returns-2 : tie.Need-returns-2
 returns-2 c = let z = c .before .before .before .before in ((z .pre .0 .0, omega arith), λ xs said row H. listed-none H (full-figures H (c .before .if1 .left)))

@@ -5,7 +5,6 @@ use mathlib.Core.Path.{refl}
 use native.Mathlib.Omega.{arith}
 use borrow.Author.Tests.{ltb-true}
 use Rattle.stream.proofs.Ends.{closed-next}
-use borrow.Author.Needs.{needs}
 use Rattle.stream.proofs.next_part.Statement.{statement}
 use Rattle.stream.proofs.next_part.Tie as tie
 

@@ -1,0 +1,2 @@
+-- byte by byte through a piece: takes-none, takes-next, takes-all
+pub mod Bytes

@@ -1,0 +1,2 @@
+-- what `feed_piece` promises: Taken, Takes
+pub mod Taken
