@@ -27,5 +27,5 @@ pub mod Used
 pub mod Stopped
 -- the smallest completion cost above a number: next-some, next-none, is-next, no-next, exit-next
 pub mod Next
--- a margin says what it should, and nothing else would: margins-say, one-margin, exit-margin
+-- a margin says what it should, and nothing else would: margins-say, margins-count, one-margin, exit-margin
 pub mod Margins

@@ -1,16 +1,18 @@
 -- A MARGIN says what it should, of every copy that is reached, and nothing else would (document 02, K5).
--- Rests on specs Margins and Setting, Completions, Next, Reach.
-use mathlib.Core.Path.{_≡_, refl, ap, _∙_}
-use mathlib.Core.List.{List·Memᴰ}
-use mathlib.Core.Option.{Option, some, none, Option·map}
+-- Rests on base Lists, specs Margins and Setting, Next, Reach.
+use mathlib.Core.Path.{_≡_, refl, sym, ap, subst, _∙_}
+use mathlib.Core.Option.{Option, some, none, Option·map, Option·none-ne-some, Option·some-injective}
 use Prim.Native.Nat.{ℕ, _+_, _-_, _≤_, _<_}
 use native.Mathlib.Omega.{arith}
 use native.Mathlib.Decide.{decLt, ℕ-discrete}
+use lib.ListN.{length, length-map}
+use Rattle.base.specs.Lists.{chosen}
 use Rattle.base.specs.Copy.{Copy}
+use Rattle.base.proofs.Lists.{chosen-map, chosen-mem}
 use Rattle.theory.specs.Completions.{Graph, Completion, IsLow, IsNext, NoNext, nextOf}
-use Rattle.theory.specs.Tasks.{copiesIn}
+use Rattle.theory.specs.Tasks.{Task, copiesIn}
 use Rattle.theory.specs.Setting.{WellFormed, Setting}
-use Rattle.theory.specs.Margins.{marginOf, Says, opens, never}
+use Rattle.theory.specs.Margins.{marginOf, marginsIn, Says, opens, never}
 use Rattle.theory.proofs.Next.{next-some, next-none, exit-next}
 use Rattle.theory.proofs.Reach.{copy-sound}
 
@@ -42,10 +44,29 @@ margin-says g L b v a d = go (nextOf g b v a) refl
     go none e = rw e (says-none g b v a d (next-none g L b v a e))
     go (some n) e = rw e (says-next g b v a d (next-some g L b v a n e))
 
--- WITH THAT MANY CYCLES MORE, AND NO FEWER, another path through the copy is within budget
-pub margins-say : (S : Setting) (c : Copy) → List·Memᴰ c (copiesIn (S .task))
-    → Says (S .task .graph) (S .task .largest) (c .block) (c .low) (marginOf (S .task) c)
-margins-say S c m = margin-says (S .task .graph) (S .laws) (S .task .largest) (c .block) (c .low) (copy-sound S c m .1 .cost)
+-- WITH THAT MANY CYCLES MORE, AND NO FEWER, another path through the copy is within budget: the i-th margin is that of the i-th copy
+module _ (S : Setting) (i : ℕ) (m : Option ℕ) where
+  abbrev T : Task
+  T = S .task
+
+  pub margins-say : chosen (marginsIn (S .task)) i ≡ some m
+      → (c : Copy) × (chosen (copiesIn (S .task)) i ≡ some c) × Says (S .task .graph) (S .task .largest) (c .block) (c .low) m
+  unfolding marginsIn
+  margins-say q = go (chosen (copiesIn T) i) refl (λ o e. sym (chosen-map (marginOf T) (copiesIn T) i ∙ ap (Option·map (marginOf T)) e) ∙ q)
+    where
+      go : (o : Option Copy) → chosen (copiesIn T) i ≡ o
+          → ((o : Option Copy) → chosen (copiesIn T) i ≡ o → Option·map (marginOf T) o ≡ some m)
+          → (c : Copy) × (chosen (copiesIn T) i ≡ some c) × Says (T .graph) (T .largest) (c .block) (c .low) m
+      go none e by = absurd (Option·none-ne-some m (by none e))
+      go (some c) e by =
+          let d = copy-sound S c (chosen-mem (copiesIn T) i c e) .1 .cost in
+          let s = margin-says (T .graph) (S .laws) (T .largest) (c .block) (c .low) d in
+          (c, e, subst (Says (T .graph) (T .largest) (c .block) (c .low)) (Option·some-injective (marginOf T c) m (by (some c) e)) s)
+
+-- "of every copy"
+pub margins-count : (T : Task) → length (marginsIn T) ≡ length (copiesIn T)
+unfolding marginsIn
+margins-count T = length-map (copiesIn T) (marginOf T)
 
 -- "The exit's is always `none`"
 pub exit-margin : (S : Setting) (c : Copy) → c .block ≡ 2 → marginOf (S .task) c ≡ none
