@@ -262,7 +262,8 @@ refusals =
     )
     ∷ (
       reportFrom (figured 4 4 5 [] (4 ∷ []) ∷ refusedAs 3 ∷ figured 2 3 1 (none ∷ []) [] ∷ figured 4 6 3 (some 12 ∷ none ∷ some 500 ∷ []) (3 ∷ 4 ∷ []) ∷ []),
-      lines ("1 4 4 5" ∷ "2 refused 3" ∷ "3 2 3 1 none" ∷ "4 4 6 3 12 none 500" ∷ "total 10 13 9" ∷ "most 3 3 2" ∷ "unused 1 4" ∷ "unused 4 3" ∷ "unused 4 4" ∷ []),
+      lines ("1 4 4 5" ∷ "2 refused 3" ∷ "3 2 3 1 none" ∷ "4 4 6 3 12 none 500"
+          ∷ "total 10 13 9" ∷ "most 3 3 2" ∷ "unused 1 4" ∷ "unused 4 3" ∷ "unused 4 4" ∷ []),
     )
     ∷ (
       reportFrom (figured 100 149 9 [] [] ∷ figured 2 3 1 [] [] ∷ figured 3 4 1 [] [] ∷ []),

@@ -35,7 +35,6 @@ module _ (g : Graph) (b v a : ℕ) (d : Completion g v a) where
   says-none : NoNext g b v a → Says g b v a none
   says-none n = never (λ r l m. still l (λ c e k j. n c e k (omega arith)))
 
-
 -- the margin of any completion cost
 pub margin-says : (g : Graph) → WellFormed g → (b v a : ℕ) → Completion g v a → Says g b v a (Option·map (λ n. n - a) (nextOf g b v a))
 margin-says g L b v a d = go (nextOf g b v a) refl

@@ -64,7 +64,7 @@ module _ (g : Graph) (L : WellFormed g) where
   pub next-some : (b v r a : ℕ) → nextOf g b v r ≡ some a → IsNext g b v r a
   unfolding nextOf
   next-some b v r a e =
-      let w = smallest-some (completes g v) (b - r) (suc r) a e in
+      let w = smallest-some (completes g v) _ _ a e in
       record {
         cost = completes-sound g L v a (w .passes);
         above = omega (arith, w .above);
@@ -74,7 +74,7 @@ module _ (g : Graph) (L : WellFormed g) where
 
   pub next-none : (b v r : ℕ) → nextOf g b v r ≡ none → NoNext g b v r
   unfolding nextOf
-  next-none b v r e c d l m = smallest-none (completes g v) (b - r) (suc r) e c (completes-complete g L d) (omega arith) (omega arith)
+  next-none b v r e c d l m = smallest-none (completes g v) _ _ e c (completes-complete g L d) (omega arith) (omega arith)
 
   -- and back: it finds what there is, and nothing where there is nothing
   pub is-next : {b v r a : ℕ} → IsNext g b v r a → nextOf g b v r ≡ some a

@@ -74,7 +74,7 @@ lowOf g v r = largest (completes g v) r
 
 -- the smallest completion cost of v above r, at or below b
 unfoldable pub nextOf : Graph → ℕ → ℕ → ℕ → Option ℕ
-nextOf g b v r = smallest (completes g v) (suc r) (b - r)
+nextOf g b v r = lookUp (completes g v) b r .next
 
 -- v has a completion that costs, with n cycles more, at most b
 unfoldable pub fits : Graph → ℕ → ℕ → ℕ → Bool

@@ -25,7 +25,7 @@ returns c =
     let z = b .before .before .before .before .before .before .before .before in
     let w = z .args .words .now in
     let a = list-answer w (z .args .area .now) (z .args .out .now) (z .pre .0 .0) (z .pre .0 .1) in
-    (says-refused w (sym (b .build .ensures .0 ∙ a)) (i .if1 .taken) (r .report-refused .ensures .0), r .report-refused .ensures .1)
+    (says-refused w (sym (b .build .ensures .0 ∙ a)) (λ e. omega (arith, e, i .if1 .taken)) (r .report-refused .ensures .0), r .report-refused .ensures .1)
 
 report-built-requires : tie.Need-report-built-requires
 report-built-requires c κs =
@@ -38,7 +38,8 @@ report-built-requires c κs =
     let e = b .build .ensures in
     let p = sym (e .0) ∙ i .if1 .left in
     let a = list-answer w area out (z .pre .0 .0) (z .pre .0 .1) in
-    (sym a ∙ p, ((front-fits w area out _ (e .1 .1) p, front-is w area out _ (e .1 .1) p), (costs-left w area out (z .pre .0 .0) (z .pre .0 .1) (e .1 .0) p, z .pre .1)))
+    let costs = costs-left w area out (z .pre .0 .0) (z .pre .0 .1) (e .1 .0) p in
+    (sym a ∙ p, ((front-fits w area out _ (e .1 .1) p, front-is w area out _ (e .1 .1) p), (costs, z .pre .1)))
 
 returns-2 : tie.Need-returns-2
 unfolding figures

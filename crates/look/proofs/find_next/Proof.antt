@@ -23,20 +23,22 @@ is-set-requires : tie.Need-is-set-requires Inv-loop μ-loop
 is-set-requires c κs =
     let l = c .before in
     let z = l .before .before in
-    let W = z .pre .0 in (
-      record { budget = W .budget; block = W .block; cost = c .loop-test .taken },
-      lower-cell (z .args .b) (z .args .v) (l .loop .c) (z .args .b) (z .args .area .now) (c .loop-test .taken) (z .pre .1),
+    let W = z .pre .0 in
+    let m : l .loop .c ≤ z .args .b = omega (arith, c .loop-test .taken) in (
+      record { budget = W .budget; block = W .block; cost = m },
+      lower-cell (z .args .b) (z .args .v) (l .loop .c) (z .args .b) (z .args .area .now) m (z .pre .1),
     )
 
 returns : tie.Need-returns Inv-loop μ-loop
 returns c =
     let l = c .before .before in
-    found _ _ _ _ (l .before .loop .inv .1) (l .loop-test .taken) (sym (c .before .is-set .ensures) ∙ c .if1 .taken)
+    found _ _ _ _ (l .before .loop .inv .1) (omega (arith, l .loop-test .taken)) (sym (c .before .is-set .ensures) ∙ c .if1 .taken)
 
 loop-again : tie.Need-loop-again Inv-loop μ-loop
 loop-again c =
     let l = c .before .before in
-    (omega (arith, l .loop-test .taken), onward _ _ _ _ (l .before .loop .inv .1) (l .loop-test .taken) (sym (c .before .is-set .ensures) ∙ c .if1 .left))
+    let on = onward _ _ _ _ (l .before .loop .inv .1) (omega (arith, l .loop-test .taken)) (sym (c .before .is-set .ensures) ∙ c .if1 .left) in
+    (omega (arith, l .loop-test .taken), on)
 
 returns-2 : tie.Need-returns-2 Inv-loop μ-loop
 returns-2 c = nothing _ _ _ _ (c .before .loop .inv .1) (omega (arith, c .loop-test .left))

@@ -19,12 +19,12 @@ put-bytes-requires : tie.Need-put-bytes-requires
 put-bytes-requires c κs =
     let i = c .before .before in
     let z = i .before .before in
-    subst (Fits (z .args .at) (z .args .text .now)) (sym (word-none _ _ (i .if1 .taken))) (z .pre .1)
+    subst (Fits (z .args .at) (z .args .text .now)) (sym (word-none _ _ (omega (arith, i .if1 .taken)))) (z .pre .1)
 
 returns : tie.Need-returns
 returns c =
     let p = c .before .before in
-    wrote-as (p .put-bytes .ensures) (word-none _ _ (p .before .before .before .if1 .taken))
+    wrote-as (p .put-bytes .ensures) (word-none _ _ (omega (arith, p .before .before .before .if1 .taken)))
 
 sub-put-number-2 : tie.Need-sub-put-number-2
 sub-put-number-2 c =
@@ -35,12 +35,12 @@ put-number-requires : tie.Need-put-number-requires
 put-number-requires c κs =
     let i = c .before in
     let z = i .before .before in
-    subst (Fits (z .args .at) (z .args .text .now)) (sym (word-some _ _ (i .if1 .left))) (z .pre .1)
+    subst (Fits (z .args .at) (z .args .text .now)) (sym (word-some _ _ (λ e. omega (arith, e, i .if1 .left)))) (z .pre .1)
 
 returns-2 : tie.Need-returns-2
 returns-2 c =
     let p = c .before .before in
-    wrote-as (p .put-number .ensures) (word-some _ _ (p .before .before .if1 .left))
+    wrote-as (p .put-number .ensures) (word-some _ _ (λ e. omega (arith, e, p .before .before .if1 .left)))
 
 pub put-margin-spec : {M : Type 1} → statement M
 put-margin-spec =

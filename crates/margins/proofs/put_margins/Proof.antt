@@ -33,7 +33,7 @@ look-up-requires c κs =
     let R = z .pre .0 .0 in
     let upto : l .i ≤ z .args .c = omega (arith, f .before .loop-test .taken) in
     let v : (1 ≤ f .field .result) × (f .field .result ≤ mostBlocks) =
-        omega (arith, f .field .ensures .0, R .block (l .i) (l .inv .least) upto) in (
+    omega (arith, f .field .ensures .0, R .block (l .i) (l .inv .least) upto) in (
       record {
         budget = R .budget;
         block = v;
@@ -81,7 +81,7 @@ same-length c = c .before .loop .inv .due .same
 
 returns : tie.Need-returns Inv-loop μ-loop
 unfolding marginWords
-returns c = parts-end _ _ (c .before .loop .inv) (c .loop-test .left)
+returns c = parts-end _ _ (c .before .loop .inv) (omega (arith, c .loop-test .left))
 
 pub put-margins-spec : {M : Type 1} → statement M
 put-margins-spec =
