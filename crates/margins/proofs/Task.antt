@@ -36,7 +36,7 @@ module _ (w : List ℕ) (K : Buildable w) {area : List ℕ} (T : Table (graph w)
       let s = copy-sound (setting w K) c (chosen-mem (sheetCopies w) i c q) .1 in
       ap (λ (b : ℕ). marginAt t area b (heading t .records) i) bound
       ∙ ap (λ (d : Copy). lessLow (d .low) (nextIn (largestIn w) area (d .block) (d .low))) (copied w K .record-is i c q)
-      ∙ ap (lessLow (c .low)) (next-in T (c .block) (c .low) (s .place .0) (s .place .1))
+      ∙ ap (lessLow (c .low)) (next-in T (c .block) (c .low) (s .place .0) (s .place .1) (s .small))
 
   pub margins-are : marginsAt (boundedSheet w) area ≡ marginsIn (task w)
   unfolding marginsAt marginsIn sheetCopies
