@@ -30,6 +30,16 @@ last-most (y ∷ z ∷ zs) r x m =
     let l = last-most (z ∷ zs) (q .1) z (List·Memᴰ·head refl) in
     ⊎-elim (λ e. omega (arith, ltb-true y z (q .0))) (last-most (z ∷ zs) (q .1) x) (List·Memᴰ·cases-cons m)
 
+-- and the first the smallest
+pub first-least : (xs : List ℕ) → rising xs ≡ true → (x : ℕ) → List·Memᴰ x xs → nth xs 1 ≤ x
+unfolding rising
+first-least [] r x m = absurd (List·Memᴰ·not-nil m)
+first-least (y ∷ []) r x m = ⊎-elim (λ e. omega arith) (λ n. absurd (List·Memᴰ·not-nil n)) (List·Memᴰ·cases-cons m)
+first-least (y ∷ z ∷ zs) r x m =
+    let q = and-e _ _ r in
+    let l = ltb-true y z (q .0) in
+    ⊎-elim (λ e. omega arith) (λ n. omega (arith, first-least (z ∷ zs) (q .1) x n)) (List·Memᴰ·cases-cons m)
+
 -- one of them is above a number exactly where the last is
 pub last-above : (m : ℕ) (xs : List ℕ) → rising xs ≡ true → any (λ x. ltb m x) xs ≡ ltb m (lastOf xs)
 unfolding lastOf

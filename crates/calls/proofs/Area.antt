@@ -242,10 +242,11 @@ filling-filled {g} {n} {b} {first} {area} F T =
         ∙ sym (cell-filled g n b first room (x .block) (x .number) (p .0) (p .1) (p .2)))
 
 -- THE OUTPUT ROW after an accepted build: its words, and the rest untouched
-pub output-words : (w output : List ℕ) → take (length (boundedSheet w)) (outputAfter w 0 output) ≡ boundedSheet w
-unfolding lentAfter outputAfter
-output-words w output = take-at (boundedSheet w) (drop (length (boundedSheet w)) output) (length (boundedSheet w)) refl
+module _ (w : List ℕ) (h : ℕ) (output : List ℕ) where
+  pub output-words : take (length (boundedSheet w h)) (outputAfter w h 0 output) ≡ boundedSheet w h
+  unfolding lentAfter outputAfter
+  output-words = take-at (boundedSheet w h) (drop (length (boundedSheet w h)) output) (length (boundedSheet w h)) refl
 
-pub output-rest : (w output : List ℕ) → drop (length (boundedSheet w)) (outputAfter w 0 output) ≡ drop (length (boundedSheet w)) output
-unfolding lentAfter outputAfter
-output-rest w output = drop-at (boundedSheet w) (drop (length (boundedSheet w)) output) (length (boundedSheet w)) refl
+  pub output-rest : drop (length (boundedSheet w h)) (outputAfter w h 0 output) ≡ drop (length (boundedSheet w h)) output
+  unfolding lentAfter outputAfter
+  output-rest = drop-at (boundedSheet w h) (drop (length (boundedSheet w h)) output) (length (boundedSheet w h)) refl

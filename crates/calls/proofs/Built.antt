@@ -1,5 +1,5 @@
 -- The sheet of an accepted build: it lays its setting's copies out, start copies first, with the entries of its budgets, and keeps rule 11.
--- Rests on formats Budgets, Headings, Accepted, RuleKept and WordsFit, SheetLaws, SettingRows.
+-- Rests on formats Budgets, Handler, Headings, RuleKept and WordsFit, SheetLaws, SettingRows.
 use mathlib.Core.Path.{_≡_, refl, sym, ap, subst, _∙_}
 use mathlib.Core.Logic.{_≢_, _⊎_, inl, inr, ⊎-elim}
 use mathlib.Core.Bool.{Bool, true, false}
@@ -23,13 +23,13 @@ use Rattle.theory.proofs.Counts.{edge-of}
 use Rattle.theory.proofs.Reach.{copy-sound, start-in}
 use Rattle.theory.proofs.Agreement.{first-copy}
 use Rattle.formats.specs.Limits.{mostCopies, mostBoundedEdges, wordLimit}
-use Rattle.formats.specs.Versions.{isSecond, budgetCount, budgetsIn, largestIn}
-use Rattle.formats.specs.GraphSheet.{header, sheetRefusal}
+use Rattle.formats.specs.Versions.{isSecond, budgetCount, budgetsIn}
+use Rattle.formats.specs.GraphSheet.{header, handledRefusal}
 use Rattle.formats.specs.BoundedSheet.{Row, Preface, edgeCount, Heading, heading, entriesIn}
 use Rattle.formats.specs.Rule11.{boundedRefusal}
 use Rattle.formats.proofs.Budgets.{budgets-there, largest-named}
 use Rattle.formats.proofs.Headings.{Proper, HeaderReads, header-reads}
-use Rattle.formats.proofs.Accepted.{Accepted, accepted}
+use Rattle.formats.proofs.Handler.{lowered-count, AcceptedWith, accepted-with}
 use Rattle.formats.proofs.Reading.{Laid, laid, counted}
 use Rattle.formats.proofs.RuleKept.{RowsFit, EntriesFit, Fits, once, fits-rule}
 use Rattle.formats.proofs.WordsFit.{words-fit}
@@ -38,24 +38,28 @@ use Rattle.calls.specs.Build.{copyCount, edgeTotal}
 use Rattle.calls.proofs.SheetLaws.{settingWith}
 use Rattle.calls.proofs.SettingRows.{row-at, lays-out, rises, first-copies, startsIn, exitAt, exit-here, rows-fit, entries-fit}
 
--- what an accepted build says of its graph sheet
-pub record Buildable (w : List ℕ) : Type 0 where
-  pub ok : sheetRefusal w ≡ 0
+-- what an accepted build says of its graph sheet, with the handler's cost h
+pub record Buildable (w : List ℕ) (h : ℕ) : Type 0 where
+  pub ok : handledRefusal w h ≡ 0
   pub start : ℕ
-  pub opens : lowOf (graph w) 1 (largestIn w) ≡ some start
-  pub few : copyCount (task w) ≤ mostCopies
-  pub edges : edgeTotal (task w) ≤ mostBoundedEdges
+  pub opens : lowOf (graph w) 1 (task w h .largest) ≡ some start
+  pub few : copyCount (task w h) ≤ mostCopies
+  pub edges : edgeTotal (task w h) ≤ mostBoundedEdges
 
-module _ (w : List ℕ) (K : Buildable w) where
-  abbrev pub A : Accepted w
-  A = accepted w (K .ok)
+module _ (w : List ℕ) (h : ℕ) (K : Buildable w h) where
+  abbrev pub A : AcceptedWith w h
+  A = accepted-with w h (K .ok)
+
+  -- the lowered budgets
+  abbrev pub bs : List ℕ
+  bs = task w h .budgets
 
   abbrev pub setting : Setting
-  setting = settingWith (header w) w (A .sound) (budgetsIn w) (A .claims) (K .start) (K .opens)
+  setting = settingWith (header w) w (A .sheet .sound) bs (A .claims) (K .start) (K .opens)
 
   -- the entry of the largest budget
   abbrev pub widest : Entry setting
-  widest = record { budget = largestIn w; named = largest-named (A .claims); low = K .start; fits = K .opens }
+  widest = record { budget = task w h .largest; named = largest-named (A .claims); low = K .start; fits = K .opens }
 
   abbrev ds : List Copy
   ds = copies setting
@@ -64,7 +68,7 @@ module _ (w : List ℕ) (K : Buildable w) where
   rs = rowsOf (graph w) ds
 
   abbrev pub preface : Preface
-  preface = prefaceFor (isSecond w) (task w)
+  preface = prefaceFor (isSecond w) (task w h)
 
   rows-are : length rs ≡ length ds
   unfolding rowsOf
@@ -108,22 +112,22 @@ module _ (w : List ℕ) (K : Buildable w) where
   two-rows : 2 ≤ length rs
   two-rows = omega (arith, rows-are, first-starts, last-behind)
 
-  entries : EntriesFit (budgetsIn w) (map (entryFor (task w)) (budgetsIn w)) (startsIn setting) rs
+  entries : EntriesFit bs (map (entryFor (task w h)) bs) (startsIn setting) rs
   entries = entries-fit setting refl
 
   proper : Proper preface
   unfolding budgetCount
   proper = record {
-    same = length-map (budgetsIn w) (entryFor (task w));
+    same = length-map bs (entryFor (task w h));
     first = λ e.
         let n : budgetCount w ≡ 1 = rw (e, budgetCount) refl in
-        let one : length (budgetsIn w) ≡ 1 = budgets-there w (A .there) ∙ n in
-        (one, one-member _ 1 (length-map (budgetsIn w) (entryFor (task w)) ∙ one) (entries .named 1 (omega arith) first-starts));
+        let one : length bs ≡ 1 = lowered-count h (budgetsIn w) ∙ budgets-there w (A .sheet .there) ∙ n in
+        (one, one-member _ 1 (length-map bs (entryFor (task w h)) ∙ one) (entries .named 1 (omega arith) first-starts));
   }
 
   -- in the first version there is one budget, its entry is 1, and the exit stands second
   pub first-version : isSecond w ≡ false
-      → (length (budgetsIn w) ≡ 1) × (map (entryFor (task w)) (budgetsIn w) ≡ 1 ∷ []) × (exitAt setting ≡ 2)
+      → (length bs ≡ 1) × (map (entryFor (task w h)) bs ≡ 1 ∷ []) × (exitAt setting ≡ 2)
   first-version e =
       let p = proper .first e in
       let k = List·Memᴰ·eq-of-singleton (subst (List·Memᴰ (startsIn setting)) (p .1) (entries .named (startsIn setting) first-starts (omega arith))) in
@@ -132,7 +136,7 @@ module _ (w : List ℕ) (K : Buildable w) where
   pub reads-back : HeaderReads preface rs
   reads-back = header-reads preface rs proper (omega (arith, two-rows))
 
-  pub sheet-laid : Laid (heading (boundedSheet w)) (boundedSheet w) rs
+  pub sheet-laid : Laid (heading (boundedSheet w h)) (boundedSheet w h) rs
   unfolding boundedSheet
   sheet-laid = laid preface rs proper (omega (arith, two-rows))
 
@@ -141,7 +145,7 @@ module _ (w : List ℕ) (K : Buildable w) where
   some-edge : 1 ≤ edgeCount rs
   unfolding rowOf rowsOf targets
   some-edge =
-      let e = edge-of (graph w) (setting .laws) (low-some (graph w) (setting .laws) 1 (largestIn w) (K .start) (K .opens) .cost)
+      let e = edge-of (graph w) (setting .laws) (low-some (graph w) (setting .laws) 1 (task w h .largest) (K .start) (K .opens) .cost)
       (λ e. omega arith) in
       let first = startCopy setting widest in
       let here = number-chosen first ds (start-in setting widest) in
@@ -161,44 +165,44 @@ module _ (w : List ℕ) (K : Buildable w) where
         proper = proper;
         claims = A .claims;
         starts = startsIn setting;
-        rows = rows-fit setting (A .sound .form .blocks .1);
+        rows = rows-fit setting (A .sheet .sound .form .blocks .1);
         entries = entries;
       }
 
-  pub keeps-rule : boundedRefusal (boundedSheet w) ≡ 0
+  pub keeps-rule : boundedRefusal (boundedSheet w h) ≡ 0
   unfolding boundedSheet
   keeps-rule = fits-rule preface rs fits
 
   -- every word that the build fills fits 16 bits
-  pub words-fit-16 : (x : ℕ) → List·Memᴰ x (boundedSheet w) → x < wordLimit
+  pub words-fit-16 : (x : ℕ) → List·Memᴰ x (boundedSheet w h) → x < wordLimit
   unfolding boundedSheet
   words-fit-16 = words-fit preface rs fits
 
   -- THE BOUNDED GRAPH that it gives
-  pub version-back : isSecond (boundedSheet w) ≡ isSecond w
+  pub version-back : isSecond (boundedSheet w h) ≡ isSecond w
   unfolding boundedSheet
   version-back = reads-back .second
 
-  pub budgets-back : budgetsIn (boundedSheet w) ≡ budgetsIn w
+  pub budgets-back : budgetsIn (boundedSheet w h) ≡ task w h .budgets
   unfolding boundedSheet
   budgets-back = reads-back .budgets
 
-  pub entries-back : entriesIn (boundedSheet w) ≡ map (entryFor (task w)) (budgetsIn w)
+  pub entries-back : entriesIn (boundedSheet w h) ≡ map (entryFor (task w h)) bs
   unfolding boundedSheet
   entries-back = reads-back .entries
 
-  pub last-is : readBounded (boundedSheet w) .last ≡ exitAt setting
+  pub last-is : readBounded (boundedSheet w h) .last ≡ exitAt setting
   unfolding boundedSheet readBounded rowOf
   last-is =
-      let h = heading (boundedSheet w) in
-      let b : h .largest ≡ largestIn w = ap (λ (h : Heading). h .largest) (reads-back .counts) in
-      let R = rows-fit setting (A .sound .form .blocks .1) in
+      let x = heading (boundedSheet w h) in
+      let b : x .largest ≡ task w h .largest = ap (λ (x : Heading). x .largest) (reads-back .counts) in
+      let R = rows-fit setting (A .sheet .sound .form .blocks .1) in
       ap (λ (l : List ℕ). nth l 1)
-      (once h (boundedSheet w) rs (startsIn setting) sheet-laid (subst (λ (b : ℕ). RowsFit (startsIn setting) b rs) (sym b) R) 2 (R .two))
+      (once x (boundedSheet w h) rs (startsIn setting) sheet-laid (subst (λ (b : ℕ). RowsFit (startsIn setting) b rs) (sym b) R) 2 (R .two))
       ∙ sym (R .two .alone (exitAt setting) _ (row-at setting (exitAt setting) _ (exit-here setting)) refl)
 
-  pub sheet-lays-out : LaysOut setting (readBounded (boundedSheet w))
+  pub sheet-lays-out : LaysOut setting (readBounded (boundedSheet w h))
   unfolding readBounded
   sheet-lays-out =
-      lays-out setting (heading (boundedSheet w)) (boundedSheet w) sheet-laid (readBounded (boundedSheet w) .last)
+      lays-out setting (heading (boundedSheet w h)) (boundedSheet w h) sheet-laid (readBounded (boundedSheet w h) .last)
       (ap (chosen ds) last-is ∙ exit-here setting)

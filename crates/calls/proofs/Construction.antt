@@ -1,5 +1,5 @@
 -- DEMAND 2 of every graph sheet that a build accepts.
--- Rests on theory Reach, formats Reading and RuleRead, SettingRows, Built.
+-- Rests on theory Reach, formats Handler, Reading and RuleRead, SettingRows, Built.
 use mathlib.Core.Path.{_≡_, refl, sym, ap, subst, _∙_}
 use mathlib.Core.Logic.{_≢_}
 use mathlib.Core.Bool.{false}
@@ -18,8 +18,9 @@ use Rattle.theory.specs.Copies.{targets, copyFor, targetNumber}
 use Rattle.theory.specs.Setting.{Setting, starts, copies, exitCopy}
 use Rattle.theory.proofs.Completions.{low-some, is-low, no-low, exit-cost, covers, serves}
 use Rattle.theory.proofs.Reach.{target-mem, edge-target, start-i, targets-in, reached-in, in-reached, copy-sound, entry-of, exit-only}
-use Rattle.formats.specs.Versions.{isSecond, budgetsIn, largestIn}
+use Rattle.formats.specs.Versions.{isSecond, budgetsIn}
 use Rattle.formats.specs.BoundedSheet.{heading, boundedLength, copyAt, targetsAt}
+use Rattle.formats.proofs.Handler.{lowered-count, lowered-exactly, accepted-with}
 use Rattle.formats.proofs.Reading.{Reads, reads}
 use Rattle.formats.proofs.RuleRead.{clauses}
 use Rattle.calls.specs.SheetGraph.{task, graph, rowOf, rowsOf, entryFor, sheetCopies, boundedSheet, readBounded}
@@ -28,35 +29,35 @@ use Rattle.calls.proofs.SettingRows.{row-at, rises, apart, its-target, 
 use Rattle.calls.proofs.Built.{Buildable, setting, first-starts, exit-behind, first-version, sheet-laid, version-back, budgets-back}
 use Rattle.calls.proofs.Built.{entries-back, last-is, keeps-rule, words-fit-16}
 
-module _ (w : List ℕ) (K : Buildable w) where
+module _ (w : List ℕ) (h : ℕ) (K : Buildable w h) where
   abbrev g : Graph
   g = graph w
 
   abbrev S : Setting
-  S = setting w K
+  S = setting w h K
 
   -- the records of the bounded sheet are the copies, in order, and their chains the copies' targets
   pub record Copied (t : List ℕ) : Type 0 where
-    pub copies : heading t .copies ≡ length (sheetCopies w)
-    pub record-is : (i : ℕ) (c : Copy) → chosen (sheetCopies w) i ≡ some c → copyAt (heading t) t i ≡ c
-    pub edges-are : (i : ℕ) (c : Copy) → chosen (sheetCopies w) i ≡ some c
-        → targetsAt (heading t) t i ≡ map (targetNumber (sheetCopies w)) (targets (graph w) c)
+    pub copies : heading t .copies ≡ length (sheetCopies w h)
+    pub record-is : (i : ℕ) (c : Copy) → chosen (sheetCopies w h) i ≡ some c → copyAt (heading t) t i ≡ c
+    pub edges-are : (i : ℕ) (c : Copy) → chosen (sheetCopies w h) i ≡ some c
+        → targetsAt (heading t) t i ≡ map (targetNumber (sheetCopies w h)) (targets (graph w) c)
 
-  pub copied : Copied (boundedSheet w)
+  pub copied : Copied (boundedSheet w h)
   unfolding sheetCopies rowOf rowsOf copyAt
   copied =
-      let t = boundedSheet w in
+      let t = boundedSheet w h in
       let rs = rowsOf g (copies S) in
       let row : (i : ℕ) (c : Copy) → chosen (copies S) i ≡ some c → Reads (heading t) t rs i (rowOf g (copies S) c)
-      = λ i c q. reads (heading t) t rs (sheet-laid w K) i (rowOf g (copies S) c) (row-at S i c q) in
+      = λ i c q. reads (heading t) t rs (sheet-laid w h K) i (rowOf g (copies S) c) (row-at S i c q) in
       record {
-        copies = sheet-laid w K .copies ∙ length-map (copies S) (rowOf g (copies S));
+        copies = sheet-laid w h K .copies ∙ length-map (copies S) (rowOf g (copies S));
         record-is = λ i c q. let r = row i c q in λ j. record { block = r .block j; low = r .low j };
         edges-are = λ i c q. row i c q .targets;
       }
 
   abbrev t : List ℕ
-  t = boundedSheet w
+  t = boundedSheet w h
 
   abbrev cs : List Copy
   cs = copies S
@@ -77,7 +78,7 @@ module _ (w : List ℕ) (K : Buildable w) where
   unfolding sheetCopies
   count-is = copied .copies
 
-  at : (i : ℕ) → IsPlace w t i → At i
+  at : (i : ℕ) → IsPlace w h t i → At i
   unfolding sheetCopies
   at i p =
       let x = chosen-some cs i (p .0) (omega (arith, p .1, count-is)) in
@@ -89,7 +90,7 @@ module _ (w : List ℕ) (K : Buildable w) where
         edges = copied .edges-are i (x .0) (x .1);
       }
 
-  place-of : (i : ℕ) (c : Copy) → chosen cs i ≡ some c → IsPlace w t i
+  place-of : (i : ℕ) (c : Copy) → chosen cs i ≡ some c → IsPlace w h t i
   place-of i c q = let l = chosen-le cs i c q in (l .0, omega (arith, l .1, count-is))
 
   -- a choice's target, by the look-up
@@ -114,15 +115,15 @@ module _ (w : List ℕ) (K : Buildable w) where
 
   goes-at : (i k v r a : ℕ) (A : At i) → chosen (g .next (A .copy .block)) k ≡ some v → A .copy .low ≡ g .cost (A .copy .block) + r
       → IsLow g v r a
-      → (n : ℕ) × IsPlace w t n × (chosen (targetsAt (heading t) t i) k ≡ some n) × (copyAt (heading t) t n ≡ copyOf v a)
+      → (n : ℕ) × IsPlace w h t n × (chosen (targetsAt (heading t) t i) k ≡ some n) × (copyAt (heading t) t n ≡ copyOf v a)
   unfolding targetNumber
-  goes-at i k v r a A q e h =
-      let m = edge-target g (S .laws) (A .copy) (copyOf v a) (chosen-mem (g .next (A .copy .block)) k v q) e h in
+  goes-at i k v r a A q e is =
+      let m = edge-target g (S .laws) (A .copy) (copyOf v a) (chosen-mem (g .next (A .copy .block)) k v q) e is in
       let n = numberFrom 1 (copyOf v a) cs in
       let x : chosen cs n ≡ some (copyOf v a) = number-chosen (copyOf v a) cs (targets-in S (A .copy) (copyOf v a) (A .member) m) in (
         n,
         place-of n (copyOf v a) x,
-        ap (λ (l : List ℕ). chosen l k) (A .edges) ∙ target-at (A .copy) k v (some a) r q e (is-low g (S .laws) h),
+        ap (λ (l : List ℕ). chosen l k) (A .edges) ∙ target-at (A .copy) k v (some a) r q e (is-low g (S .laws) is),
         read-at n (copyOf v a) x,
       )
 
@@ -131,10 +132,10 @@ module _ (w : List ℕ) (K : Buildable w) where
   falls-at i n A m z o =
       let d = its-target S (A .copy) (A .member) n (subst (List·Memᴰ n) (A .edges) m) z in
       let e = target-mem g (A .copy) (d .0) (d .1) in
-      let h = low-some g (S .laws) (d .0 .block) _ (d .0 .low) (e .1) in
+      let l = low-some g (S .laws) (d .0 .block) _ (d .0 .low) (e .1) in
       let p = S .laws .paid (A .copy .block) (d .0 .block) (e .0) o in
       let q = covers g (S .laws) (copy-sound S (A .copy) (A .member) .1 .cost) in
-      omega (arith, h .below, ap (λ (c : Copy). c .low) (read-at n (d .0) (d .2)))
+      omega (arith, l .below, ap (λ (c : Copy). c .low) (read-at n (d .0) (d .2)))
 
   length-at : (i : ℕ) (A : At i) → length (targetsAt (heading t) t i) ≡ length (g .next (A .copy .block))
   unfolding targets
@@ -144,20 +145,20 @@ module _ (w : List ℕ) (K : Buildable w) where
 
   -- THE ENTRIES
   abbrev bs : List ℕ
-  bs = budgetsIn w
+  bs = task w h .budgets
 
-  entry-is : (k : ℕ) → IsBudget w t k → entry w t k ≡ entryFor (task w) (nth bs k)
-  entry-is k p = ap (λ (l : List ℕ). nth l k) (entries-back w K) ∙ nth-map (entryFor (task w)) bs k (p .0) (p .1)
+  entry-is : (k : ℕ) → IsBudget w h t k → entry w h t k ≡ entryFor (task w h) (nth bs k)
+  entry-is k p = ap (λ (l : List ℕ). nth l k) (entries-back w h K) ∙ nth-map (entryFor (task w h)) bs k (p .0) (p .1)
 
-  names : (k a : ℕ) → IsBudget w t k → IsLow g 1 (nth bs k) a
-      → IsPlace w t (entry w t k) × (copyAt (heading t) t (entry w t k) ≡ copyOf 1 a)
-  names k a p h =
-      let e = entry-some S (nth bs k) a (nth-in bs k (p .0) (p .1)) (is-low g (S .laws) h) in
-      let here : chosen cs (entry w t k) ≡ some (copyOf 1 a) = ap (chosen cs) (entry-is k p) ∙ e .1 in
+  names : (k a : ℕ) → IsBudget w h t k → IsLow g 1 (nth bs k) a
+      → IsPlace w h t (entry w h t k) × (copyAt (heading t) t (entry w h t k) ≡ copyOf 1 a)
+  names k a p is =
+      let e = entry-some S (nth bs k) a (nth-in bs k (p .0) (p .1)) (is-low g (S .laws) is) in
+      let here : chosen cs (entry w h t k) ≡ some (copyOf 1 a) = ap (chosen cs) (entry-is k p) ∙ e .1 in
       (place-of _ _ here, read-at _ _ here)
 
   -- the start copies are those of the budgets
-  its-budget : (c : Copy) → List·Memᴰ c (starts S) → (c .block ≡ 1) × ((k : ℕ) × IsBudget w t k × IsLow g 1 (nth bs k) (c .low))
+  its-budget : (c : Copy) → List·Memᴰ c (starts S) → (c .block ≡ 1) × ((k : ℕ) × IsBudget w h t k × IsLow g 1 (nth bs k) (c .low))
   its-budget c m =
       let E = entry-of S c m in
       let k = nth-of (E .0 .budget) (E .0 .named) in
@@ -170,14 +171,14 @@ module _ (w : List ℕ) (K : Buildable w) where
         ),
       )
 
-  of-budget : (c : Copy) → c .block ≡ 1 → (k : ℕ) → IsBudget w t k → IsLow g 1 (nth bs k) (c .low) → List·Memᴰ c (starts S)
-  of-budget c e k p h =
+  of-budget : (c : Copy) → c .block ≡ 1 → (k : ℕ) → IsBudget w h t k → IsLow g 1 (nth bs k) (c .low) → List·Memᴰ c (starts S)
+  of-budget c e k p is =
       subst (λ (d : Copy). List·Memᴰ d (starts S)) (λ i. record { block = sym e i; low = c .low })
-      (start-i g bs (nth bs k) (c .low) (nth-in bs k (p .0) (p .1)) (is-low g (S .laws) h))
+      (start-i g bs (nth bs k) (c .low) (nth-in bs k (p .0) (p .1)) (is-low g (S .laws) is))
 
   -- THE EXIT
   last-at : chosen cs (readBounded t .last) ≡ some (exitCopy S)
-  last-at = ap (chosen cs) (last-is w K) ∙ exit-here S
+  last-at = ap (chosen cs) (last-is w h K) ∙ exit-here S
 
   last-alone : (i : ℕ) (A : At i) → A .copy .block ≡ 2 → i ≡ readBounded t .last
   last-alone i A e = one-place cs (apart S) i _ (exitCopy S) (A .chosen-is ∙ ap some (exit-only S (A .copy) (A .member) e)) last-at
@@ -185,11 +186,11 @@ module _ (w : List ℕ) (K : Buildable w) where
   -- in the first version the one start copy stands first, and the exit second
   in-order : isSecond w ≡ false → (copyAt (heading t) t 1 ≡ copyOf 1 (K .start)) × (readBounded t .last ≡ 2)
   in-order v =
-      let f = first-version w K v in
+      let f = first-version w h K v in
       let low : IsLow g 1 (nth bs 1) (K .start) = low-some g (S .laws) 1 _ (K .start) (ap (lowOf g 1) (one-last bs (f .0)) ∙ K .opens) in
-      let e : entry w t 1 ≡ 1 = ap (λ (l : List ℕ). nth l 1) (entries-back w K ∙ f .1) in (
+      let e : entry w h t 1 ≡ 1 = ap (λ (l : List ℕ). nth l 1) (entries-back w h K ∙ f .1) in (
         subst (λ (x : ℕ). copyAt (heading t) t x ≡ copyOf 1 (K .start)) e (names 1 (K .start) (omega arith, omega (arith, f .0)) low .1),
-        last-is w K ∙ f .2,
+        last-is w h K ∙ f .2,
       )
 
   -- what is said of a record's copy holds of the copy that it is
@@ -203,20 +204,20 @@ module _ (w : List ℕ) (K : Buildable w) where
         sym (ap (λ (c : Copy). c .low) (A .read)) ∙ e ∙ ap (λ (c : Copy). g .cost (c .block) + r) (A .read)
 
   size-is : length t ≡ boundedLength (heading t)
-  size-is = clauses t (keeps-rule w K) .ruled .form .size
+  size-is = clauses t (keeps-rule w h K) .ruled .form .size
 
-  pub demand2 : Demand2 w (boundedSheet w)
+  pub demand2 : Demand2 w h (boundedSheet w h)
   demand2 =
       record {
         low = λ i p.
             let A = at i p in
             subst (λ (c : Copy). Completion g (c .block) (c .low)) (sym (A .read)) (copy-sound S (A .copy) (A .member) .1 .cost);
-        serves = λ i r v x y a p h m e f.
-            serves g (S .laws) (copyAt (heading t) t i .block) v r (copyAt (heading t) t i .low) m h e f a;
+        serves = λ i r v x y a p is m e f.
+            serves g (S .laws) (copyAt (heading t) t i .block) v r (copyAt (heading t) t i .low) m is e f a;
         entry-fits = names;
         entry-none = λ k p n. entry-is k p ∙ entry-none S (nth bs k) (no-low g (S .laws) n);
         start = K .start;
-        start-low = low-some g (S .laws) 1 (largestIn w) (K .start) (K .opens);
+        start-low = low-some g (S .laws) 1 (task w h .largest) (K .start) (K .opens);
         starts = starts S;
         starts-are = λ c. (its-budget c, λ p. of-budget c (p .0) (p .1 .0) (p .1 .1) (p .1 .2));
         choices = λ i p.
@@ -225,9 +226,9 @@ module _ (w : List ℕ) (K : Buildable w) where
         diverted = λ i k v r p q e n.
             let A = at i p in
             diverted-at i k v r A (next-at A k q) (cost-at A r e) n;
-        goes = λ i k v r a p q e h.
+        goes = λ i k v r a p q e is.
             let A = at i p in
-            goes-at i k v r a A (next-at A k q) (cost-at A r e) h;
+            goes-at i k v r a A (next-at A k q) (cost-at A r e) is;
         reached = λ c. (
           λ r.
               let A = at (r .0) (r .1) in
@@ -247,18 +248,23 @@ module _ (w : List ℕ) (K : Buildable w) where
             let two = S .laws .above (A .copy .block) (d .0 .block) (target-mem g (A .copy) (d .0) (d .1) .0) in
             absurd (omega (arith, ap (λ (c : Copy). c .block) (read-at n (d .0) (d .2)), e));
         exit = λ c d. exit-cost g (S .laws) d refl;
-        version = version-back w K;
-        budgets = budgets-back w K;
-        entries = ap length (entries-back w K) ∙ length-map bs (entryFor (task w));
+        version = version-back w h K;
+        budgets = budgets-back w h K;
+        entries = ap length (entries-back w h K) ∙ length-map bs (entryFor (task w h));
+        claims = lowered-count h (budgetsIn w);
+        lowered = λ k p.
+            let A = accepted-with w h (K .ok) in
+            ap (λ (l : List ℕ). nth l k + h) (budgets-back w h K)
+            ∙ lowered-exactly h (A .sheet .claims) (A .fair) k (p .0) (omega (arith, p .1, lowered-count h (budgetsIn w)));
         size = size-is;
         rising = λ i j p l q.
             let A = at i (p, omega arith) in
             let C = at j (omega arith, q) in
             rw (A .read, C .read) (rising-chosen cs (rises S) i j (A .copy) (C .copy) l (A .chosen-is) (C .chosen-is));
-        two = let p = place-of _ _ last-at in omega (arith, p .1, last-is w K, exit-behind w K, first-starts w K);
+        two = let p = place-of _ _ last-at in omega (arith, p .1, last-is w h K, exit-behind w h K, first-starts w h K);
         last = (place-of _ _ last-at, read-at _ _ last-at);
         last-only = λ i p e. let A = at i p in last-alone i A (sym (ap (λ (c : Copy). c .block) (A .read)) ∙ e);
         first = in-order;
-        rule = keeps-rule w K;
-        words-fit = words-fit-16 w K;
+        rule = keeps-rule w h K;
+        words-fit = words-fit-16 w h K;
       }

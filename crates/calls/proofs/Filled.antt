@@ -1,5 +1,5 @@
 -- What 9 and the work area say of a sheet's completions: proved of every sheet that passes 1 to 8.
--- Rests on theory Completions, formats Accepted, SheetLaws, Area, Weigh, specs Filled.
+-- Rests on theory Completions, formats Accepted and Handler, SheetLaws, Area, Weigh, specs Filled.
 use mathlib.Core.Path.{_≡_, refl, sym, ap, subst, _∙_}
 use mathlib.Core.Logic.{_↔_}
 use mathlib.Core.Bool.{Bool, true, false}
@@ -15,15 +15,15 @@ use Rattle.base.proofs.Orders.{over-is}
 use Rattle.theory.specs.Completions.{Graph, Completion, completes, lowOf}
 use Rattle.theory.specs.Setting.{WellFormed}
 use Rattle.theory.proofs.Completions.{completes-sound, completes-complete, low-none, no-low}
-use Rattle.formats.specs.Versions.{largestIn}
-use Rattle.formats.specs.GraphSheet.{header, sheetRefusal}
+use Rattle.formats.specs.GraphSheet.{header, handledRefusal}
 use Rattle.formats.proofs.Accepted.{accepted}
+use Rattle.formats.proofs.Handler.{accepted-with}
 use Rattle.calls.specs.SheetGraph.{task, graph}
 use Rattle.calls.specs.Area.{byteOf, filled}
-use Rattle.calls.specs.Weigh.{Weighing, taskArea, nothingFits, weighOrder, beforeWeighing, areaAfter, weighed}
-use Rattle.calls.specs.Build.{Lent, buildOrder, build}
-use Rattle.calls.specs.Moves.{GuardedInput, moved, guardedOrder, guardedReply, guardedMove}
-use Rattle.calls.specs.Starts.{OutsetOn, guardedStartOrder, guardedStart}
+use Rattle.calls.specs.Weigh.{Weighing, taskOf, taskArea, nothingFits, weighOrder, beforeWeighing, areaAfter, weighed}
+use Rattle.calls.specs.Build.{weighing, buildOrder, build}
+use Rattle.calls.specs.Moves.{weighing as guarded-weighing, moved, guardedOrder, guardedReply, guardedMove}
+use Rattle.calls.specs.Starts.{weighing as start-weighing, guardedStartOrder, guardedStart}
 use Rattle.calls.specs.Filled.{NineIsExact, Holds, WeighingFills, BuildFills, MoveFills, StartFills}
 use Rattle.calls.proofs.SheetLaws.{well-formed}
 use Rattle.calls.proofs.Weigh.{weighs-late, late-area}
@@ -37,9 +37,9 @@ none-of (some a) e = absurd (not-both refl (sym e))
 
 pub nine-is-exact : NineIsExact
 unfolding nothingFits isNone
-nine-is-exact w ok =
+nine-is-exact w h ok =
     let L = well-formed (header w) w (accepted w ok .sound) in
-    let b = largestIn w in
+    let b = task w h .largest in
     (λ e. low-none (graph w) L 1 b (none-of (lowOf (graph w) 1 b) e), λ n. ap isNone (no-low (graph w) L n))
 
 -- a byte is that of a completion, or of none
@@ -59,17 +59,17 @@ module _ (g : Graph) (L : WellFormed g) (v c : ℕ) {x : ℕ} (e : x ≡ byteOf 
     λ n. e ∙ ap byteOf (else-false (completes g v c) (λ q. n (completes-sound g L v c q))),
   )
 
-module _ (w area : List ℕ) (ok : sheetRefusal w ≡ 0) (room : taskArea (task w) ≤ length area) where
+module _ (w : List ℕ) (h : ℕ) (area : List ℕ) (ok : handledRefusal w h ≡ 0) (room : taskArea (task w h) ≤ length area) where
   abbrev n : ℕ
   n = header w .blocks
 
   abbrev b : ℕ
-  b = largestIn w
+  b = task w h .largest
 
   abbrev L : WellFormed (graph w)
-  L = well-formed (header w) w (accepted w ok .sound)
+  L = well-formed (header w) w (accepted-with w h ok .sheet .sound)
 
-  filled-holds : Holds w area (filled (graph w) n b area)
+  filled-holds : Holds w h area (filled (graph w) n b area)
   unfolding taskArea
   filled-holds =
       record {
@@ -82,11 +82,12 @@ module _ (w area : List ℕ) (ok : sheetRefusal w ≡ 0) (room : taskArea (task 
 -- an answer of an order that begins with weighing's, and the area after it
 holds-after : {J : Type 0} (f : J → Weighing) (qs : Order J) (j : J) {a : ℕ} → a ≡ refused (over f weighOrder ++ qs) j
     → beforeWeighing a ≡ false
-    → Holds (f j .sheet) (f j .area) (areaAfter (task (f j .sheet)) a (f j .area))
+    → Holds (f j .sheet) (f j .handler) (f j .area) (areaAfter (taskOf (f j)) a (f j .area))
 holds-after f qs j {a} e late =
     let p = weighs-late f qs j (sym (ap beforeWeighing e) ∙ late) in
     let w = f j .sheet in
-    subst (Holds w (f j .area)) (late-area w (f j .area) a late) (filled-holds w (f j .area) (p .0) (p .1))
+    let h = f j .handler in
+    subst (Holds w h (f j .area)) (late-area w h (f j .area) a late) (filled-holds w h (f j .area) (p .0) (p .1))
 
 pub weighing-fills : WeighingFills
 unfolding weighed
@@ -97,15 +98,13 @@ weighing-fills i late =
 
 pub build-fills : BuildFills
 unfolding build buildOrder
-build-fills i late = holds-after (λ (i : Lent). record { sheet = i .sheet; area = i .area }) _ i refl late
+build-fills i late = holds-after weighing _ i refl late
 
 pub move-fills : MoveFills
 unfolding guardedMove guardedReply guardedOrder moved
-move-fills w s m late =
-    holds-after (λ (i : GuardedInput). record { sheet = i .sheet; area = i .area }) _
-    (record { sheet = w; area = m .area; walk = s; choice = m .choice }) refl late
+move-fills w h s m late =
+    holds-after guarded-weighing _ (record { sheet = w; handler = h; area = m .area; walk = s; choice = m .choice }) refl late
 
 pub start-fills : StartFills
 unfolding guardedStart guardedStartOrder
-start-fills w s i late =
-    holds-after (λ (x : OutsetOn). record { sheet = x .sheet; area = x .outset .area }) _ (record { sheet = w; outset = i }) refl late
+start-fills w h s i late = holds-after start-weighing _ (record { sheet = w; handler = h; outset = i }) refl late

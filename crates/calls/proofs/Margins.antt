@@ -14,22 +14,24 @@ use Rattle.formats.specs.Versions.{largestIn}
 use Rattle.formats.specs.BoundedSheet.{heading, copyAt}
 use Rattle.calls.specs.SheetGraph.{graph, task, sheetCopies, boundedSheet}
 use Rattle.calls.specs.Program.{listingOrder}
+use Rattle.calls.proofs.SheetLaws.{largest-zero}
 use Rattle.calls.proofs.Built.{Buildable, setting}
 use Rattle.calls.proofs.Construction.{copied}
 use Rattle.calls.proofs.Unused.{listed}
 
 module _ (w : List ℕ) (e : refused listingOrder w ≡ 0) where
-  abbrev K : Buildable w
+  abbrev K : Buildable w 0
   K = listed w e
 
-  pub margin-count : length (marginsIn (task w)) ≡ heading (boundedSheet w) .copies
+  pub margin-count : length (marginsIn (task w 0)) ≡ heading (boundedSheet w 0) .copies
   unfolding sheetCopies
-  margin-count = margins-count (task w) ∙ sym (copied w K .copies)
+  margin-count = margins-count (task w 0) ∙ sym (copied w 0 K .copies)
 
   -- the i-th margin is that of the i-th record: with so many cycles more, and no fewer, another path through the copy is within budget
-  pub sheet-margins : (i : ℕ) (m : Option ℕ) → chosen (marginsIn (task w)) i ≡ some m
-      → let c = copyAt (heading (boundedSheet w)) (boundedSheet w) i in Says (graph w) (largestIn w) (c .block) (c .low) m
+  pub sheet-margins : (i : ℕ) (m : Option ℕ) → chosen (marginsIn (task w 0)) i ≡ some m
+      → let c = copyAt (heading (boundedSheet w 0)) (boundedSheet w 0) i in Says (graph w) (largestIn w) (c .block) (c .low) m
   unfolding sheetCopies
   sheet-margins i m q =
-      let c = margins-say (setting w K) i m q in
-      subst (λ (d : Copy). Says (graph w) (largestIn w) (d .block) (d .low) m) (sym (copied w K .record-is i (c .0) (c .1))) (c .2)
+      let c = margins-say (setting w 0 K) i m q in
+      subst (λ (d : Copy). Says (graph w) (largestIn w) (d .block) (d .low) m) (sym (copied w 0 K .record-is i (c .0) (c .1)))
+      (subst (λ (b : ℕ). Says (graph w) b (c .0 .block) (c .0 .low) m) (largest-zero w) (c .2))

@@ -16,8 +16,8 @@ use Rattle.base.proofs.Orders.{Numbered, pick, tested, none-left, over-is, over
 use Rattle.theory.specs.Completions.{lowOf}
 use Rattle.theory.specs.Machines.{End, going, exit, diverted, Reply, Machine, taken, replyAt, reply}
 use Rattle.theory.specs.Walks.{Walk, isExit, hasEnded, InShape, mostMoves, monitor, boundedWalk}
-use Rattle.formats.specs.Versions.{budgetsIn, largestIn}
-use Rattle.formats.specs.GraphSheet.{header, sheetRefusal}
+use Rattle.formats.specs.Versions.{budgetsIn}
+use Rattle.formats.specs.GraphSheet.{header, handledRefusal}
 use Rattle.formats.specs.Rule11.{boundedOrder, boundedRefusal}
 use Rattle.formats.proofs.RuleKept.{bounded-numbered}
 use Rattle.calls.specs.SheetGraph.{task, graph, readBounded}
@@ -148,16 +148,16 @@ numbered-shape i p q h =
     rw (not-outside 1 (i .budgets) (i .walk .number) p q) (in-shape (i .places) (i .last) (i .most) (i .walk .walk) h)
 
 -- THE TWO CALLS on walks in shape and accepted sheets reply as the machines do
-pub guarded-as : (w : List ℕ) (i : Move) (s : Budgeted) (a : ℕ) → sheetRefusal w ≡ 0 → taskArea (task w) ≤ length (i .area)
-    → lowOf (graph w) 1 (largestIn w) ≡ some a
-    → 1 ≤ s .number → s .number ≤ length (budgetsIn w)
-    → InShape (header w .blocks) 2 (nth (budgetsIn w) (s .number)) (s .walk)
-    → guardedReply w s i ≡ replyWith (s .number) (reply (monitor (graph w) (nth (budgetsIn w) (s .number))) (s .walk) (i .choice))
+pub guarded-as : (w : List ℕ) (h : ℕ) (i : Move) (s : Budgeted) (a : ℕ) → handledRefusal w h ≡ 0 → taskArea (task w h) ≤ length (i .area)
+    → lowOf (graph w) 1 (task w h .largest) ≡ some a
+    → 1 ≤ s .number → s .number ≤ length (task w h .budgets)
+    → InShape (header w .blocks) 2 (nth (task w h .budgets) (s .number)) (s .walk)
+    → guardedReply w h s i ≡ replyWith (s .number) (reply (monitor (graph w) (nth (task w h .budgets) (s .number))) (s .walk) (i .choice))
 unfolding guardedReply guardedOrder monitor
-guarded-as w i s a e room low p q h =
-    let x : GuardedInput = record { sheet = w; area = i .area; walk = s; choice = i .choice } in
-    machine-replies (monitor (graph w) (nth (budgetsIn w) (s .number))) _ weighOrder weigh-numbered onGraph x (weighs w (i .area) a e room low) refl refl
-    (numbered-shape (onGraph x) p q h)
+guarded-as w h i s a e room low p q shape =
+    let x : GuardedInput = record { sheet = w; handler = h; area = i .area; walk = s; choice = i .choice } in
+    machine-replies (monitor (graph w) (nth (task w h .budgets) (s .number))) _ weighOrder weigh-numbered onGraph x
+    (weighs w h (i .area) e room a low) refl refl (numbered-shape (onGraph x) p q shape)
 
 pub bounded-as : (t : List ℕ) (s : Budgeted) (k : ℕ) → boundedRefusal t ≡ 0
     → 1 ≤ s .number → s .number ≤ length (budgetsIn t)

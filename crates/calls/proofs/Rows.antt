@@ -15,10 +15,10 @@ use Rattle.theory.specs.Copies.{copyFor, targets, add, join, spread, candidates
 use Rattle.theory.specs.Machines.{taken, replyAt, reply, answers, final}
 use Rattle.theory.specs.Walks.{startAt, endAt, mostMoves, isExit, hasEnded, monitorTake, monitor, boundedTake, boundedWalk}
 use Rattle.formats.specs.Words.{follow, unsound}
-use Rattle.formats.specs.Versions.{isSecond, budgetsAt, budgetCount, budgetsIn, badBudget, badBudgets}
+use Rattle.formats.specs.Versions.{isSecond, budgetsAt, budgetCount, budgetsIn, badBudget, badBudgets, lowered, badHandler}
 use Rattle.formats.specs.GraphSheet.{header, costWord, chain, met, successors}
 use Rattle.formats.specs.GraphSheet.{short, badCounts, badLength, costFits, badCosts, badTargets, badChains, exitChain}
-use Rattle.formats.specs.GraphSheet.{sheetOrder, countOrder}
+use Rattle.formats.specs.GraphSheet.{sheetOrder, handledOrder, countOrder}
 use Rattle.formats.specs.BoundedSheet.{firstEdge, edgeRecords, copyWords, edgeWords, edgeCount, headingWords, sheetWords}
 use Rattle.formats.specs.BoundedSheet.{heading, entriesIn, copyAt, chainAt, targetsAt}
 use Rattle.formats.specs.Rule11.{tooShort, badLimits, wrongLength, badBlocks, badLows, badCopyOrder, copiesOf, notOneOf}
@@ -38,7 +38,7 @@ use Rattle.calls.specs.Starts.{setsOut, entersAt, guardedStartOrder, gua
 use Rattle.calls.specs.Program.{listingOrder, sheetListing, listing}
 use Rattle.calls.specs.Report.{sheetFigures, figures, report}
 use Rattle.calls.specs.Cases.{Case, areaWith, endNumber, sheetShown, outcome}
-use Rattle.formats.specs.Samples.{paper, loop, loopSaying, twice, least, six, threeSeven, inBytes, text, lines}
+use Rattle.formats.specs.Samples.{paper, loop, loopSaying, twice, least, nine, six, threeSeven, inBytes, text, lines}
 use Rattle.calls.specs.Examples.{examples}
 use Rattle.calls.specs.Refusals.{sparing, dear, exitChained, refusals}
 
@@ -50,8 +50,8 @@ pub starred : Pinned examples
 unfolding examples paper loop twice least inBytes text lines
     any all keep each chosen isNone from member distinct equal rising lastOf same before isIn numberFrom refused over lentAfter outside
     within completes largest lowOf fits copyFor targets add join spread candidates startCopies copiesFrom targetNumber
-    follow unsound isSecond budgetsAt budgetCount budgetsIn badBudget badBudgets header costWord chain met successors
-    short badCounts badLength costFits badCosts badTargets badChains exitChain sheetOrder
+    follow unsound isSecond budgetsAt budgetCount budgetsIn badBudget badBudgets lowered badHandler header costWord chain met successors
+    short badCounts badLength costFits badCosts badTargets badChains exitChain sheetOrder handledOrder
     firstEdge edgeRecords copyWords edgeWords edgeCount headingWords sheetWords
     heading entriesIn copyAt chainAt targetsAt
     tooShort badLimits wrongLength badBlocks badLows badCopyOrder copiesOf notOneOf startCount entryFits badEntries noLastEntry unnamedStart
@@ -62,12 +62,12 @@ unfolding examples paper loop twice least inBytes text lines
 starred = refl
 
 pub pinned : Pinned refusals
-unfolding refusals paper six loop loopSaying threeSeven least sparing dear exitChained areaWith inBytes text lines
+unfolding refusals paper nine six loop loopSaying threeSeven least sparing dear exitChained areaWith inBytes text lines
     any all keep each chosen isNone from member distinct equal rising lastOf same before isIn numberFrom refused over lentAfter outside
     within completes largest smallest lowOf nextOf fits copyFor targets add join spread candidates startCopies copiesFrom targetNumber marginsIn
     taken replyAt reply answers final startAt endAt mostMoves isExit hasEnded monitorTake monitor boundedTake boundedWalk
-    follow unsound isSecond budgetsAt budgetCount budgetsIn badBudget badBudgets header costWord chain met successors
-    short badCounts badLength costFits badCosts badTargets badChains exitChain sheetOrder
+    follow unsound isSecond budgetsAt budgetCount budgetsIn badBudget badBudgets lowered badHandler header costWord chain met successors
+    short badCounts badLength costFits badCosts badTargets badChains exitChain sheetOrder handledOrder
     firstEdge edgeRecords copyWords edgeWords edgeCount headingWords sheetWords
     heading entriesIn copyAt chainAt targetsAt
     tooShort badLimits wrongLength badBlocks badLows badCopyOrder copiesOf notOneOf startCount entryFits badEntries noLastEntry unnamedStart
@@ -85,23 +85,23 @@ pinned = refl
 -- stand here
 pub orders : numbersOf buildOrder ∷ numbersOf guardedOrder ∷ numbersOf boundedMoveOrder ∷ numbersOf partOrder ∷ numbersOf countOrder
     ∷ numbersOf listingOrder ∷ numbersOf guardedStartOrder ∷ numbersOf boundedStartOrder ∷ []
-    ≡ (1 ∷ 2 ∷ 3 ∷ 4 ∷ 41 ∷ 5 ∷ 6 ∷ 7 ∷ 8 ∷ 21 ∷ 9 ∷ 10 ∷ 22 ∷ [])
-    ∷ (1 ∷ 2 ∷ 3 ∷ 4 ∷ 41 ∷ 5 ∷ 6 ∷ 7 ∷ 8 ∷ 21 ∷ 9 ∷ 33 ∷ 32 ∷ 31 ∷ [])
+    ≡ (1 ∷ 2 ∷ 3 ∷ 4 ∷ 41 ∷ 43 ∷ 5 ∷ 6 ∷ 7 ∷ 8 ∷ 21 ∷ 9 ∷ 10 ∷ 22 ∷ [])
+    ∷ (1 ∷ 2 ∷ 3 ∷ 4 ∷ 41 ∷ 43 ∷ 5 ∷ 6 ∷ 7 ∷ 8 ∷ 21 ∷ 9 ∷ 33 ∷ 32 ∷ 31 ∷ [])
     ∷ (replicate 15 11 ++ (33 ∷ 32 ∷ 31 ∷ []))
     ∷ (replicate 15 11 ++ (33 ∷ []))
     ∷ (1 ∷ 2 ∷ 3 ∷ 4 ∷ 41 ∷ 5 ∷ 6 ∷ 7 ∷ 8 ∷ 33 ∷ [])
     ∷ (1 ∷ 2 ∷ 3 ∷ 4 ∷ 41 ∷ 5 ∷ 6 ∷ 7 ∷ 8 ∷ 9 ∷ 10 ∷ [])
-    ∷ (1 ∷ 2 ∷ 3 ∷ 4 ∷ 41 ∷ 5 ∷ 6 ∷ 7 ∷ 8 ∷ 21 ∷ 9 ∷ 33 ∷ [])
+    ∷ (1 ∷ 2 ∷ 3 ∷ 4 ∷ 41 ∷ 43 ∷ 5 ∷ 6 ∷ 7 ∷ 8 ∷ 21 ∷ 9 ∷ 33 ∷ [])
     ∷ (replicate 15 11 ++ (33 ∷ []))
     ∷ []
-unfolding over numbersOf sheetOrder boundedOrder frontOrder weighOrder buildOrder moveOrder guardedOrder boundedMoveOrder
+unfolding over numbersOf sheetOrder handledOrder boundedOrder frontOrder weighOrder buildOrder moveOrder guardedOrder boundedMoveOrder
     partOrder countOrder listingOrder guardedStartOrder boundedStartOrder
 orders = refl
 
 -- "The work area keeps its content under each number checked before 9": in both orders the same
 pub before-9 : numbersBefore 9 (numbersOf buildOrder) ∷ numbersBefore 9 (numbersOf guardedOrder) ∷ numbersBefore 9 (numbersOf weighOrder) ∷ []
-    ≡ replicate 3 (1 ∷ 2 ∷ 3 ∷ 4 ∷ 41 ∷ 5 ∷ 6 ∷ 7 ∷ 8 ∷ 21 ∷ [])
-unfolding over numbersOf numbersBefore sheetOrder frontOrder weighOrder buildOrder moveOrder guardedOrder
+    ≡ replicate 3 (1 ∷ 2 ∷ 3 ∷ 4 ∷ 41 ∷ 43 ∷ 5 ∷ 6 ∷ 7 ∷ 8 ∷ 21 ∷ [])
+unfolding over numbersOf numbersBefore handledOrder frontOrder weighOrder buildOrder moveOrder guardedOrder
 before-9 = refl
 
 pub largest-sheets : map (λ (p : ℕ × ℕ). tooMany (p .0) (p .1))

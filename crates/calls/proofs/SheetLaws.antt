@@ -1,5 +1,5 @@
--- Sound records hold a well-formed graph, and so a setting for the theory with budgets of which something fits the largest.
--- Rests on theory Setting, formats Budgets and Accepted, SheetGraph.
+-- Sound records hold a well-formed graph, and so a setting for the theory with budgets of which something fits the largest; the task of a sheet
+-- without a handler's cost. Rests on theory Setting, formats Budgets, Accepted and Handler, SheetGraph.
 use mathlib.Core.Path.{_≡_, ap, subst, _∙_}
 use mathlib.Core.Logic.{_≢_}
 use mathlib.Core.List.{List, List·Memᴰ, List·Memᴰ·not-nil}
@@ -10,11 +10,19 @@ use Rattle.base.specs.Lists.{lastOf}
 use Rattle.theory.specs.Completions.{lowOf}
 use Rattle.theory.specs.Tasks.{taskWith}
 use Rattle.theory.specs.Setting.{WellFormed, Setting}
-use Rattle.formats.specs.Versions.{Claimed}
-use Rattle.formats.specs.GraphSheet.{Header, successors, Sound}
+use Rattle.formats.specs.Versions.{budgetsIn, largestIn, Claimed}
+use Rattle.formats.specs.GraphSheet.{Header, header, successors, Sound}
 use Rattle.formats.proofs.Budgets.{largest-named, largest-most}
 use Rattle.formats.proofs.Accepted.{free, paid, source-inside, target-inside, no-successor}
-use Rattle.calls.specs.SheetGraph.{graphAt}
+use Rattle.formats.proofs.Handler.{lowered-zero}
+use Rattle.calls.specs.SheetGraph.{graphAt, graph, task}
+
+-- WITHOUT A HANDLER'S COST the budgets are the claimed ones
+pub task-zero : (w : List ℕ) → task w 0 ≡ taskWith (graph w) (header w .blocks) (budgetsIn w)
+task-zero w = ap (taskWith (graph w) (header w .blocks)) (lowered-zero (budgetsIn w))
+
+pub largest-zero : (w : List ℕ) → task w 0 .largest ≡ largestIn w
+largest-zero w = ap lastOf (lowered-zero (budgetsIn w))
 
 module _ (h : Header) (w : List ℕ) (A : Sound h w) where
   pub well-formed : WellFormed (graphAt h w)

@@ -26,27 +26,28 @@ abbrev pub tooLarge : Task → Bool
 tooLarge T = tooMany (copyCount T) (edgeTotal T)
 
 -- 22: "output row shorter than 3 + 3C + 2F words"; "22 count[s] the new header"
-unfoldable pub smallOutput : List ℕ → List ℕ → Bool
-smallOutput w output = ltb (length output) (length (boundedSheet w))
+unfoldable pub smallOutput : List ℕ → ℕ → List ℕ → Bool
+smallOutput w h output = ltb (length output) (length (boundedSheet w h))
 
--- what a build is lent
+-- what a build is given: a graph sheet, the handler's cost, and what it is lent beside the sheet
 pub record Lent : Type 0 where
   pub sheet : List ℕ
+  pub handler : ℕ
   pub area : List ℕ
   pub output : List ℕ
 
-abbrev weighing : Lent → Weighing
-weighing i = record { sheet = i .sheet; area = i .area }
+abbrev pub weighing : Lent → Weighing
+weighing i = record { sheet = i .sheet; handler = i .handler; area = i .area }
 
 -- "1 to 8, 21, 9, 10, 22 for building", of which weighing brings those up to 9
 unfoldable pub buildOrder : Order Lent
 buildOrder =
     over weighing weighOrder
-    ++ ((10, λ i. tooLarge (task (i .sheet))) ∷ (22, λ i. smallOutput (i .sheet) (i .output)) ∷ [])
+    ++ ((10, λ i. tooLarge (task (i .sheet) (i .handler))) ∷ (22, λ i. smallOutput (i .sheet) (i .handler) (i .output)) ∷ [])
 
 -- "An accepted build fills exactly its words"
-unfoldable pub outputAfter : List ℕ → ℕ → List ℕ → List ℕ
-outputAfter w a output = lentAfter a output (boundedSheet w ++ drop (length (boundedSheet w)) output)
+unfoldable pub outputAfter : List ℕ → ℕ → ℕ → List ℕ → List ℕ
+outputAfter w h a output = lentAfter a output (boundedSheet w h ++ drop (length (boundedSheet w h)) output)
 
 -- THE CALL: the answer, and the content of all that was lent
 pub record Built : Type 0 where
@@ -57,8 +58,12 @@ pub record Built : Type 0 where
 unfoldable pub build : Lent → Built
 build i =
     let a = refused buildOrder i in
-    record { answer = a; area = areaAfter (task (i .sheet)) a (i .area); output = outputAfter (i .sheet) a (i .output) }
+    record {
+      answer = a;
+      area = areaAfter (task (i .sheet) (i .handler)) a (i .area);
+      output = outputAfter (i .sheet) (i .handler) a (i .output);
+    }
 
--- a build of a sheet, an area and an output
-abbrev pub built : List ℕ → List ℕ → List ℕ → Built
-built w area out = build (record { sheet = w; area = area; output = out })
+-- a build of a sheet with the handler's cost h, an area and an output
+abbrev pub built : List ℕ → ℕ → List ℕ → List ℕ → Built
+built w h area out = build (record { sheet = w; handler = h; area = area; output = out })

@@ -1,5 +1,5 @@
 -- DEMAND 2: the bounded sheet has exactly the copies and branches of the published construction, in the listed order (document 01,
--- "Completions and copies" and "Bounded sheet"; document 02, K2), sentence by sentence. Rests on theory Completions and Copies, formats, Build.
+-- "Completions and copies" and "Bounded sheet"; document 02, K2 and K6), sentence by sentence. Rests on theory Completions and Copies, formats, Build.
 use mathlib.Core.Path.{_≡_}
 use mathlib.Core.Logic.{_≢_, _↔_}
 use mathlib.Core.Bool.{true, false}
@@ -15,23 +15,23 @@ use Rattle.formats.specs.Limits.{wordLimit}
 use Rattle.formats.specs.Versions.{isSecond, budgetsIn}
 use Rattle.formats.specs.BoundedSheet.{heading, entriesIn, boundedLength, copyAt, targetsAt}
 use Rattle.formats.specs.Rule11.{boundedRefusal}
-use Rattle.calls.specs.SheetGraph.{task, boundedSheet, readBounded}
+use Rattle.calls.specs.SheetGraph.{graph, task, boundedSheet, readBounded}
 use Rattle.calls.specs.Build.{Lent, build}
 
--- w is the graph sheet, t the bounded sheet: its records are read, and nothing here is computed from the graph
-module _ (w t : List ℕ) where
+-- w is the graph sheet, h the handler's cost, t the bounded sheet: its records are read, and nothing here is computed from the graph
+module _ (w : List ℕ) (h : ℕ) (t : List ℕ) where
   abbrev G : Graph
-  G = task w .graph
+  G = graph w
 
   abbrev B : ℕ
-  B = task w .largest
+  B = task w h .largest
 
-  -- a budget's number, the budget, and its entry
+  -- a budget's number, the budget, lowered, and its entry
   abbrev pub IsBudget : ℕ → Type 0
-  IsBudget k = (1 ≤ k) × (k ≤ length (task w .budgets))
+  IsBudget k = (1 ≤ k) × (k ≤ length (task w h .budgets))
 
   abbrev pub budget : ℕ → ℕ
-  budget k = nth (task w .budgets) k
+  budget k = nth (task w h .budgets) k
 
   abbrev pub entry : ℕ → ℕ
   entry k = nth (entriesIn t) k
@@ -44,7 +44,7 @@ module _ (w t : List ℕ) where
   copy i = copyAt (heading t) t i
 
   abbrev pub cost : ℕ → ℕ
-  cost i = task w .graph .cost (copy i .block)
+  cost i = graph w .cost (copy i .block)
 
   abbrev pub edges : ℕ → List ℕ
   edges i = targetsAt (heading t) t i
@@ -82,8 +82,11 @@ module _ (w t : List ℕ) where
     pub exit : (c : ℕ) → Completion G 2 c → c ≡ 0
     -- "Three words: C copies, F edges, B", "Its bounded sheet begins 0, C, F, that number, the budgets, one entry word each", and the records
     pub version : isSecond t ≡ isSecond w
-    pub budgets : budgetsIn t ≡ task w .budgets
-    pub entries : length (entriesIn t) ≡ length (task w .budgets)
+    pub budgets : budgetsIn t ≡ task w h .budgets
+    pub entries : length (entriesIn t) ≡ length (task w h .budgets)
+    -- "Every budget is lowered by h", and by all of it: each that the bounded sheet carries is, with h, the one that was claimed
+    pub claims : length (task w h .budgets) ≡ length (budgetsIn w)
+    pub lowered : (k : ℕ) → IsBudget k → nth (budgetsIn t) k + h ≡ nth (budgetsIn w) k
     pub size : length t ≡ boundedLength (heading t)
     -- "Copies rise by block, then low", so that no copy stands there twice: "equal start copies are shared"
     pub rising : (i j : ℕ) → 1 ≤ i → i < j → j ≤ heading t .copies → before (copy i) (copy j) ≡ true
@@ -99,8 +102,8 @@ module _ (w t : List ℕ) where
 
 -- "exactly the words that build filled"
 abbrev pub builtWords : Lent → List ℕ
-builtWords i = take (length (boundedSheet (i .sheet))) (build i .output)
+builtWords i = take (length (boundedSheet (i .sheet) (i .handler))) (build i .output)
 
 -- THE DEMAND: of every build that answers 0, whatever it was lent
 abbrev pub KeepsDemand2 : Type 0
-KeepsDemand2 = (i : Lent) → build i .answer ≡ 0 → Demand2 (i .sheet) (builtWords i)
+KeepsDemand2 = (i : Lent) → build i .answer ≡ 0 → Demand2 (i .sheet) (i .handler) (builtWords i)

@@ -1,5 +1,5 @@
 -- THE MOVES as calls: a guarded move on a graph sheet and a bounded move on a bounded sheet (document 01, "Walks" and the tables of refusals;
--- document 02, K2). Rests on base Lists and Checks, theory Machines and Walks, formats, SheetGraph, Weigh.
+-- document 02, K2 and K6). Rests on base Lists and Checks, theory Machines and Walks, formats, SheetGraph, Weigh.
 use mathlib.Core.Bool.{Bool, _||_, not, Bool·beq}
 use mathlib.Core.List.{List, [], _∷_, _++_}
 use Prim.Native.Nat.{ℕ}
@@ -70,17 +70,18 @@ pub record Move : Type 0 where
 
 pub record GuardedInput : Type 0 where
   pub sheet : List ℕ
+  pub handler : ℕ
   pub area : List ℕ
   pub walk : Budgeted
   pub choice : ℕ
 
-abbrev weighing : GuardedInput → Weighing
-weighing i = record { sheet = i .sheet; area = i .area }
+abbrev pub weighing : GuardedInput → Weighing
+weighing i = record { sheet = i .sheet; handler = i .handler; area = i .area }
 
--- "the watched move .. and the count limits read that budget as B"
+-- "the watched move .. and the count limits read that budget as B", which is lowered: "33 go[es] by the lowered ones"
 abbrev pub onGraph : GuardedInput → Standing
 onGraph i =
-    let T = task (i .sheet) in
+    let T = task (i .sheet) (i .handler) in
     record {
       budgets = length (T .budgets);
       places = T .blocks;
@@ -95,11 +96,11 @@ onGraph i =
 unfoldable pub guardedOrder : Order GuardedInput
 guardedOrder = over weighing weighOrder ++ over onGraph moveOrder
 
--- the answer and the walk
-unfoldable pub guardedReply : List ℕ → Budgeted → Move → Reply Budgeted
-guardedReply w s i =
-    moved (refused guardedOrder (record { sheet = w; area = i .area; walk = s; choice = i .choice })) s
-    (replyWith (s .number) (reply (monitor (task w .graph) (nth (task w .budgets) (s .number))) (s .walk) (i .choice)))
+-- the answer and the walk, on a sheet with the handler's cost h
+unfoldable pub guardedReply : List ℕ → ℕ → Budgeted → Move → Reply Budgeted
+guardedReply w h s i =
+    moved (refused guardedOrder (record { sheet = w; handler = h; area = i .area; walk = s; choice = i .choice })) s
+    (replyWith (s .number) (reply (monitor (task w h .graph) (nth (task w h .budgets) (s .number))) (s .walk) (i .choice)))
 
 -- THE CALL: the answer, the walk, and the content of the work area
 pub record Guarded : Type 0 where
@@ -107,10 +108,10 @@ pub record Guarded : Type 0 where
   pub walk : Budgeted
   pub area : List ℕ
 
-unfoldable pub guardedMove : List ℕ → Budgeted → Move → Guarded
-guardedMove w s i =
-    let r = guardedReply w s i in
-    record { answer = r .answer; walk = r .after; area = areaAfter (task w) (r .answer) (i .area) }
+unfoldable pub guardedMove : List ℕ → ℕ → Budgeted → Move → Guarded
+guardedMove w h s i =
+    let r = guardedReply w h s i in
+    record { answer = r .answer; walk = r .after; area = areaAfter (task w h) (r .answer) (i .area) }
 
 -- A BOUNDED MOVE
 

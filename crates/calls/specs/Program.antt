@@ -11,13 +11,13 @@ use Rattle.calls.specs.SheetGraph.{task, boundedSheet}
 use Rattle.calls.specs.Weigh.{nothingFits}
 use Rattle.calls.specs.Build.{tooLarge}
 
--- the build's numbers without 21 and 22: the program's own buffers are never too short
+-- the build's numbers without 21, 22 and 43: the program's own buffers are never too short, and "The listing .. take[s] h as 0"
 unfoldable pub listingOrder : Order (List ℕ)
-listingOrder = sheetOrder ++ ((9, λ w. nothingFits (task w)) ∷ (10, λ w. tooLarge (task w)) ∷ [])
+listingOrder = sheetOrder ++ ((9, λ w. nothingFits (task w 0)) ∷ (10, λ w. tooLarge (task w 0)) ∷ [])
 
 -- of a graph sheet: its listing, "or `refused` and the number"
 unfoldable pub sheetListing : List ℕ → List ℕ
-sheetListing w = elim (refused listingOrder w) [ zero ↦ listingOf (boundedSheet w) | suc n ↦ refusalOf (suc n) ]
+sheetListing w = elim (refused listingOrder w) [ zero ↦ listingOf (boundedSheet w 0) | suc n ↦ refusalOf (suc n) ]
 
 -- of a file: "an odd number of bytes in a file" is 1 whatever the length
 unfoldable pub listing : List ℕ → List ℕ

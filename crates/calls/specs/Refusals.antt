@@ -4,9 +4,9 @@ use mathlib.Core.List.{List, [], _∷_, _++_}
 use Prim.Native.Nat.{ℕ}
 use lib.ListN.{replicate}
 use Rattle.theory.specs.Machines.{End, going, exit, diverted}
-use Rattle.formats.specs.Samples.{paper, loop, loopWith, least, six, threeSeven, inBytes, lines}
+use Rattle.formats.specs.Samples.{paper, loop, loopWith, least, nine, six, threeSeven, inBytes, lines}
 use Rattle.calls.specs.Moves.{Budgeted, budgeted}
-use Rattle.calls.specs.Cases.{Case, areaWith, sheetOf, buildOf, guardedOf, moveOf, startOf, enterOf, monitorOf, listingFor, reportFor}
+use Rattle.calls.specs.Cases.{Case, areaWith, sheetOf, sheetWith, buildOf, guardedOf, moveOf, startOf, enterOf, monitorOf, listingFor, reportFor}
 
 -- a walk with the budget number n, and with the first one's
 abbrev walkWith : ℕ → ℕ → ℕ → End → Budgeted
@@ -38,116 +38,116 @@ unfoldable pub refusals : List (Case × List ℕ)
 refusals =
     -- a build: 0 with the shortest buffers and with longer ones, whose rest stays
     (
-      buildOf (record { sheet = least; area = replicate 2 7; output = replicate 11 9 }),
+      buildOf (record { sheet = least; handler = 0; area = replicate 2 7; output = replicate 11 9 }),
       0 ∷ 1 ∷ 1 ∷ 2 ∷ 1 ∷ 0 ∷ 1 ∷ 0 ∷ 1 ∷ 2 ∷ 0 ∷ 0 ∷ 2 ∷ 0 ∷ [],
     )
     ∷ (
-      buildOf (record { sheet = least; area = replicate 3 7; output = replicate 12 9 }),
+      buildOf (record { sheet = least; handler = 0; area = replicate 3 7; output = replicate 12 9 }),
       0 ∷ 1 ∷ 1 ∷ 7 ∷ 2 ∷ 1 ∷ 0 ∷ 1 ∷ 0 ∷ 1 ∷ 2 ∷ 0 ∷ 0 ∷ 2 ∷ 0 ∷ 9 ∷ [],
     )
     -- 1: the area keeps its content, also where it has room for a header of one word
-    ∷ (buildOf (record { sheet = 2 ∷ []; area = replicate 3 7; output = 9 ∷ [] }), 1 ∷ 7 ∷ 7 ∷ 7 ∷ 9 ∷ [])
+    ∷ (buildOf (record { sheet = 2 ∷ []; handler = 0; area = replicate 3 7; output = 9 ∷ [] }), 1 ∷ 7 ∷ 7 ∷ 7 ∷ 9 ∷ [])
     -- 8 before 21: the area keeps its content; 21 before 9 and 22; 9 before 22, 22: the area is filled, the output stays
-    ∷ (buildOf (record { sheet = exitChained; area = 7 ∷ []; output = 9 ∷ [] }), 8 ∷ 7 ∷ 9 ∷ [])
+    ∷ (buildOf (record { sheet = exitChained; handler = 0; area = 7 ∷ []; output = 9 ∷ [] }), 8 ∷ 7 ∷ 9 ∷ [])
     ∷ (
-      buildOf (record { sheet = dear; area = replicate 5 7; output = 9 ∷ [] }),
+      buildOf (record { sheet = dear; handler = 0; area = replicate 5 7; output = 9 ∷ [] }),
       21 ∷ 7 ∷ 7 ∷ 7 ∷ 7 ∷ 7 ∷ 9 ∷ [],
     )
-    ∷ (buildOf (record { sheet = least; area = 7 ∷ []; output = 9 ∷ [] }), 21 ∷ 7 ∷ 9 ∷ [])
+    ∷ (buildOf (record { sheet = least; handler = 0; area = 7 ∷ []; output = 9 ∷ [] }), 21 ∷ 7 ∷ 9 ∷ [])
     ∷ (
-      buildOf (record { sheet = dear; area = replicate 7 7; output = 9 ∷ [] }),
+      buildOf (record { sheet = dear; handler = 0; area = replicate 7 7; output = 9 ∷ [] }),
       9 ∷ (dearArea ++ (7 ∷ 9 ∷ [])),
     )
     ∷ (
-      buildOf (record { sheet = least; area = replicate 2 7; output = replicate 10 9 }),
+      buildOf (record { sheet = least; handler = 0; area = replicate 2 7; output = replicate 10 9 }),
       22 ∷ 1 ∷ 1 ∷ 9 ∷ 9 ∷ 9 ∷ 9 ∷ 9 ∷ 9 ∷ 9 ∷ 9 ∷ 9 ∷ 9 ∷ [],
     )
     -- a loop's second turn, a cost of exactly B, a block out of reach, a dead end: the bytes of the area
     ∷ (
-      buildOf (record { sheet = loop 6; area = replicate 21 7; output = [] }),
+      buildOf (record { sheet = loop 6; handler = 0; area = replicate 21 7; output = [] }),
       22 ∷ loopArea,
     )
     ∷ (
-      buildOf (record { sheet = 4 ∷ 2 ∷ 2 ∷ 0 ∷ 1 ∷ 0 ∷ 0 ∷ 1 ∷ 0 ∷ 2 ∷ 2 ∷ 2 ∷ 0 ∷ 2 ∷ 0 ∷ []; area = replicate 12 7; output = [] }),
+      buildOf (record { sheet = 4 ∷ 2 ∷ 2 ∷ 0 ∷ 1 ∷ 0 ∷ 0 ∷ 1 ∷ 0 ∷ 2 ∷ 2 ∷ 2 ∷ 0 ∷ 2 ∷ 0 ∷ []; handler = 0; area = replicate 12 7; output = [] }),
       22 ∷ areaWith 4 2 ((1, 0) ∷ (2, 0) ∷ (4, 2) ∷ []),
     )
     -- a guarded move: 8 before 21, 21 before 9, 9 before 33, 33 before 32, 32 before 31; the walk stays, the area only before 9
     ∷ (
-      guardedOf exitChained (walk 0 0 going) (record { choice = 1; area = 7 ∷ [] }),
+      guardedOf exitChained 0 (walk 0 0 going) (record { choice = 1; area = 7 ∷ [] }),
       8 ∷ 0 ∷ 0 ∷ 0 ∷ 1 ∷ 7 ∷ [],
     )
     ∷ (
-      guardedOf dear (walk 0 0 going) (record { choice = 1; area = replicate 5 7 }),
+      guardedOf dear 0 (walk 0 0 going) (record { choice = 1; area = replicate 5 7 }),
       21 ∷ 0 ∷ 0 ∷ 0 ∷ 1 ∷ 7 ∷ 7 ∷ 7 ∷ 7 ∷ 7 ∷ [],
     )
     ∷ (
-      guardedOf dear (walk 0 0 going) (record { choice = 1; area = replicate 6 7 }),
+      guardedOf dear 0 (walk 0 0 going) (record { choice = 1; area = replicate 6 7 }),
       9 ∷ 0 ∷ 0 ∷ 0 ∷ 1 ∷ dearArea,
     )
     ∷ (
-      guardedOf (loop 6) (walk 0 0 diverted) (record { choice = 0; area = replicate 21 7 }),
+      guardedOf (loop 6) 0 (walk 0 0 diverted) (record { choice = 0; area = replicate 21 7 }),
       33 ∷ 0 ∷ 0 ∷ 2 ∷ 1 ∷ loopArea,
     )
     ∷ (
-      guardedOf (loop 6) (walk 1 0 diverted) (record { choice = 0; area = replicate 21 7 }),
+      guardedOf (loop 6) 0 (walk 1 0 diverted) (record { choice = 0; area = replicate 21 7 }),
       32 ∷ 1 ∷ 0 ∷ 2 ∷ 1 ∷ loopArea,
     )
     ∷ (
-      guardedOf (loop 6) (walk 2 6 exit) (record { choice = 1; area = replicate 21 7 }),
+      guardedOf (loop 6) 0 (walk 2 6 exit) (record { choice = 1; area = replicate 21 7 }),
       32 ∷ 2 ∷ 6 ∷ 1 ∷ 1 ∷ loopArea,
     )
     ∷ (
-      guardedOf (loop 6) (walk 1 0 going) (record { choice = 0; area = replicate 21 7 }),
+      guardedOf (loop 6) 0 (walk 1 0 going) (record { choice = 0; area = replicate 21 7 }),
       31 ∷ 1 ∷ 0 ∷ 0 ∷ 1 ∷ loopArea,
     )
     ∷ (
-      guardedOf (loop 6) (walk 1 0 going) (record { choice = 2; area = replicate 21 7 }),
+      guardedOf (loop 6) 0 (walk 1 0 going) (record { choice = 2; area = replicate 21 7 }),
       31 ∷ 1 ∷ 0 ∷ 0 ∷ 1 ∷ loopArea,
     )
     -- 33: the place outside the sheet, end exit and place 2 not together either way, the count above B of a going and of an ended walk
     ∷ (
-      guardedOf (loop 6) (walk 4 0 going) (record { choice = 1; area = replicate 21 7 }),
+      guardedOf (loop 6) 0 (walk 4 0 going) (record { choice = 1; area = replicate 21 7 }),
       33 ∷ 4 ∷ 0 ∷ 0 ∷ 1 ∷ loopArea,
     )
     ∷ (
-      guardedOf (loop 6) (walk 3 0 exit) (record { choice = 1; area = replicate 21 7 }),
+      guardedOf (loop 6) 0 (walk 3 0 exit) (record { choice = 1; area = replicate 21 7 }),
       33 ∷ 3 ∷ 0 ∷ 1 ∷ 1 ∷ loopArea,
     )
     ∷ (
-      guardedOf (loop 6) (walk 2 0 going) (record { choice = 1; area = replicate 21 7 }),
+      guardedOf (loop 6) 0 (walk 2 0 going) (record { choice = 1; area = replicate 21 7 }),
       33 ∷ 2 ∷ 0 ∷ 0 ∷ 1 ∷ loopArea,
     )
     ∷ (
-      guardedOf (loop 6) (walk 2 0 diverted) (record { choice = 1; area = replicate 21 7 }),
+      guardedOf (loop 6) 0 (walk 2 0 diverted) (record { choice = 1; area = replicate 21 7 }),
       33 ∷ 2 ∷ 0 ∷ 2 ∷ 1 ∷ loopArea,
     )
     ∷ (
-      guardedOf (loop 6) (walk 3 7 going) (record { choice = 1; area = replicate 21 7 }),
+      guardedOf (loop 6) 0 (walk 3 7 going) (record { choice = 1; area = replicate 21 7 }),
       33 ∷ 3 ∷ 7 ∷ 0 ∷ 1 ∷ loopArea,
     )
     ∷ (
-      guardedOf (loop 6) (walk 3 7 diverted) (record { choice = 1; area = replicate 21 7 }),
+      guardedOf (loop 6) 0 (walk 3 7 diverted) (record { choice = 1; area = replicate 21 7 }),
       33 ∷ 3 ∷ 7 ∷ 2 ∷ 1 ∷ loopArea,
     )
     ∷ (
-      guardedOf (loop 6) (walk 3 6 diverted) (record { choice = 1; area = replicate 21 7 }),
+      guardedOf (loop 6) 0 (walk 3 6 diverted) (record { choice = 1; area = replicate 21 7 }),
       32 ∷ 3 ∷ 6 ∷ 2 ∷ 1 ∷ loopArea,
     )
     -- 0: a block is entered, the exit is entered, the walk is diverted and keeps place and count; a path of cost exactly B is kept
     ∷ (
-      guardedOf (loop 6) (walk 1 0 going) (record { choice = 1; area = replicate 21 7 }),
+      guardedOf (loop 6) 0 (walk 1 0 going) (record { choice = 1; area = replicate 21 7 }),
       0 ∷ 3 ∷ 3 ∷ 0 ∷ 1 ∷ loopArea,
     )
     ∷ (
-      guardedOf (loop 6) (walk 3 3 going) (record { choice = 1; area = replicate 21 7 }),
+      guardedOf (loop 6) 0 (walk 3 3 going) (record { choice = 1; area = replicate 21 7 }),
       0 ∷ 3 ∷ 6 ∷ 0 ∷ 1 ∷ loopArea,
     )
     ∷ (
-      guardedOf (loop 6) (walk 3 6 going) (record { choice = 2; area = replicate 21 7 }),
+      guardedOf (loop 6) 0 (walk 3 6 going) (record { choice = 2; area = replicate 21 7 }),
       0 ∷ 2 ∷ 6 ∷ 1 ∷ 1 ∷ loopArea,
     )
     ∷ (
-      guardedOf (loop 6) (walk 3 6 going) (record { choice = 1; area = replicate 21 7 }),
+      guardedOf (loop 6) 0 (walk 3 6 going) (record { choice = 1; area = replicate 21 7 }),
       0 ∷ 3 ∷ 6 ∷ 2 ∷ 1 ∷ loopArea,
     )
     -- a bounded move: 11 before 33, 33 before 32, 32 before 31; the walk stays
@@ -171,13 +171,13 @@ refusals =
     ∷ (moveOf six (walk 3 2 going) 1, 0 ∷ 3 ∷ 3 ∷ 2 ∷ 1 ∷ [])
     ∷ (moveOf six (walk 1 6 going) 1, 0 ∷ 4 ∷ 7 ∷ 0 ∷ 1 ∷ [])
     -- the monitor over lists of choices: empty, 0, too large, after the end, a path of cost exactly B, one choice more
-    ∷ (monitorOf (loop 6) 1 [], 1 ∷ 0 ∷ 0 ∷ [])
-    ∷ (monitorOf (loop 6) 1 (0 ∷ []), 31 ∷ 1 ∷ 0 ∷ 0 ∷ [])
-    ∷ (monitorOf (loop 6) 1 (2 ∷ []), 31 ∷ 1 ∷ 0 ∷ 0 ∷ [])
-    ∷ (monitorOf (loop 6) 1 (1 ∷ 3 ∷ []), 0 ∷ 31 ∷ 3 ∷ 3 ∷ 0 ∷ [])
-    ∷ (monitorOf (loop 6) 1 (1 ∷ 2 ∷ 1 ∷ 0 ∷ []), 0 ∷ 0 ∷ 32 ∷ 32 ∷ 2 ∷ 3 ∷ 1 ∷ [])
-    ∷ (monitorOf (loop 6) 1 (1 ∷ 1 ∷ 2 ∷ []), 0 ∷ 0 ∷ 0 ∷ 2 ∷ 6 ∷ 1 ∷ [])
-    ∷ (monitorOf (loop 6) 1 (1 ∷ 1 ∷ 1 ∷ 2 ∷ []), 0 ∷ 0 ∷ 0 ∷ 32 ∷ 3 ∷ 6 ∷ 2 ∷ [])
+    ∷ (monitorOf (loop 6) 0 1 [], 1 ∷ 0 ∷ 0 ∷ [])
+    ∷ (monitorOf (loop 6) 0 1 (0 ∷ []), 31 ∷ 1 ∷ 0 ∷ 0 ∷ [])
+    ∷ (monitorOf (loop 6) 0 1 (2 ∷ []), 31 ∷ 1 ∷ 0 ∷ 0 ∷ [])
+    ∷ (monitorOf (loop 6) 0 1 (1 ∷ 3 ∷ []), 0 ∷ 31 ∷ 3 ∷ 3 ∷ 0 ∷ [])
+    ∷ (monitorOf (loop 6) 0 1 (1 ∷ 2 ∷ 1 ∷ 0 ∷ []), 0 ∷ 0 ∷ 32 ∷ 32 ∷ 2 ∷ 3 ∷ 1 ∷ [])
+    ∷ (monitorOf (loop 6) 0 1 (1 ∷ 1 ∷ 2 ∷ []), 0 ∷ 0 ∷ 0 ∷ 2 ∷ 6 ∷ 1 ∷ [])
+    ∷ (monitorOf (loop 6) 0 1 (1 ∷ 1 ∷ 1 ∷ 2 ∷ []), 0 ∷ 0 ∷ 0 ∷ 32 ∷ 3 ∷ 6 ∷ 2 ∷ [])
     -- SEVERAL BUDGETS. A build: two start copies, of which each entry names its own; equal ones shared; nothing fits the first; nothing fits any
     ∷ (sheetOf (loopWith (3 ∷ 7 ∷ [])), 0 ∷ 0 ∷ threeSeven)
     ∷ (
@@ -195,39 +195,39 @@ refusals =
     ∷ (sheetOf (loopWith (1 ∷ 2 ∷ [])), 9 ∷ [])
     -- 21 goes by the largest budget; 22 counts the new header
     ∷ (
-      buildOf (record { sheet = loopWith (2 ∷ 3 ∷ []); area = replicate 11 7; output = [] }),
+      buildOf (record { sheet = loopWith (2 ∷ 3 ∷ []); handler = 0; area = replicate 11 7; output = [] }),
       21 ∷ replicate 11 7,
     )
     ∷ (
-      buildOf (record { sheet = loopWith (2 ∷ 3 ∷ []); area = replicate 12 7; output = replicate 22 9 }),
+      buildOf (record { sheet = loopWith (2 ∷ 3 ∷ []); handler = 0; area = replicate 12 7; output = replicate 22 9 }),
       22 ∷ (areaWith 3 3 ((1, 3) ∷ (2, 0) ∷ (3, 3) ∷ []) ++ replicate 22 9),
     )
     -- a budget number outside the sheet is 33, in a move and in a start, before 32; 9 before it; the number of a first-version sheet is 1
     ∷ (
-      guardedOf (loop 6) (walkWith 2 1 0 diverted) (record { choice = 1; area = replicate 21 7 }),
+      guardedOf (loop 6) 0 (walkWith 2 1 0 diverted) (record { choice = 1; area = replicate 21 7 }),
       33 ∷ 1 ∷ 0 ∷ 2 ∷ 2 ∷ loopArea,
     )
     ∷ (
-      guardedOf (loopWith (3 ∷ 6 ∷ [])) (walkWith 0 1 0 going) (record { choice = 1; area = replicate 21 7 }),
+      guardedOf (loopWith (3 ∷ 6 ∷ [])) 0 (walkWith 0 1 0 going) (record { choice = 1; area = replicate 21 7 }),
       33 ∷ 1 ∷ 0 ∷ 0 ∷ 0 ∷ loopArea,
     )
     ∷ (
-      guardedOf (loopWith (3 ∷ 6 ∷ [])) (walkWith 3 1 0 going) (record { choice = 1; area = replicate 21 7 }),
+      guardedOf (loopWith (3 ∷ 6 ∷ [])) 0 (walkWith 3 1 0 going) (record { choice = 1; area = replicate 21 7 }),
       33 ∷ 1 ∷ 0 ∷ 0 ∷ 3 ∷ loopArea,
     )
     ∷ (moveOf threeSeven (walkWith 3 1 0 going) 1, 33 ∷ 1 ∷ 0 ∷ 0 ∷ 3 ∷ [])
     ∷ (moveOf six (walkWith 2 1 0 going) 1, 33 ∷ 1 ∷ 0 ∷ 0 ∷ 2 ∷ [])
     -- a move reads its budget as B: the loop's turn is diverted with 3 and taken with 6, the count is at most B
     ∷ (
-      guardedOf (loopWith (3 ∷ 6 ∷ [])) (walkWith 1 3 3 going) (record { choice = 1; area = replicate 21 7 }),
+      guardedOf (loopWith (3 ∷ 6 ∷ [])) 0 (walkWith 1 3 3 going) (record { choice = 1; area = replicate 21 7 }),
       0 ∷ 3 ∷ 3 ∷ 2 ∷ 1 ∷ loopArea,
     )
     ∷ (
-      guardedOf (loopWith (3 ∷ 6 ∷ [])) (walkWith 2 3 3 going) (record { choice = 1; area = replicate 21 7 }),
+      guardedOf (loopWith (3 ∷ 6 ∷ [])) 0 (walkWith 2 3 3 going) (record { choice = 1; area = replicate 21 7 }),
       0 ∷ 3 ∷ 6 ∷ 0 ∷ 2 ∷ loopArea,
     )
     ∷ (
-      guardedOf (loopWith (3 ∷ 6 ∷ [])) (walkWith 1 3 6 going) (record { choice = 1; area = replicate 21 7 }),
+      guardedOf (loopWith (3 ∷ 6 ∷ [])) 0 (walkWith 1 3 6 going) (record { choice = 1; area = replicate 21 7 }),
       33 ∷ 3 ∷ 6 ∷ 0 ∷ 1 ∷ loopArea,
     )
     ∷ (moveOf threeSeven (walkWith 1 5 4 going) 2, 33 ∷ 5 ∷ 4 ∷ 0 ∷ 1 ∷ [])
@@ -239,14 +239,14 @@ refusals =
     ∷ (moveOf threeSeven (walkWith 2 2 4 exit) 1, 33 ∷ 2 ∷ 4 ∷ 1 ∷ 2 ∷ [])
     ∷ (moveOf threeSeven (walkWith 2 2 4 going) 1, 0 ∷ 5 ∷ 5 ∷ 0 ∷ 2 ∷ [])
     -- a guarded start: 8 before 21, 21 before 9, 9 before 33; the walk stays; 0: going, or diverted where nothing fits
-    ∷ (startOf exitChained (walk 5 6 exit) (record { number = 0; area = 7 ∷ [] }), 8 ∷ 5 ∷ 6 ∷ 1 ∷ 1 ∷ 7 ∷ [])
-    ∷ (startOf dear (walk 5 6 exit) (record { number = 0; area = replicate 5 7 }), 21 ∷ 5 ∷ 6 ∷ 1 ∷ 1 ∷ replicate 5 7)
-    ∷ (startOf dear (walk 5 6 exit) (record { number = 0; area = replicate 6 7 }), 9 ∷ 5 ∷ 6 ∷ 1 ∷ 1 ∷ dearArea)
-    ∷ (startOf (loop 6) (walk 5 6 exit) (record { number = 0; area = replicate 21 7 }), 33 ∷ 5 ∷ 6 ∷ 1 ∷ 1 ∷ loopArea)
-    ∷ (startOf (loop 6) (walk 5 6 exit) (record { number = 2; area = replicate 21 7 }), 33 ∷ 5 ∷ 6 ∷ 1 ∷ 1 ∷ loopArea)
-    ∷ (startOf (loop 6) (walk 5 6 exit) (record { number = 1; area = replicate 21 7 }), 0 ∷ 1 ∷ 0 ∷ 0 ∷ 1 ∷ loopArea)
-    ∷ (startOf (loopWith (2 ∷ 6 ∷ [])) (walk 5 6 exit) (record { number = 1; area = replicate 21 7 }), 0 ∷ 1 ∷ 0 ∷ 2 ∷ 1 ∷ loopArea)
-    ∷ (startOf (loopWith (2 ∷ 6 ∷ [])) (walk 5 6 exit) (record { number = 2; area = replicate 21 7 }), 0 ∷ 1 ∷ 0 ∷ 0 ∷ 2 ∷ loopArea)
+    ∷ (startOf exitChained 0 (walk 5 6 exit) (record { number = 0; area = 7 ∷ [] }), 8 ∷ 5 ∷ 6 ∷ 1 ∷ 1 ∷ 7 ∷ [])
+    ∷ (startOf dear 0 (walk 5 6 exit) (record { number = 0; area = replicate 5 7 }), 21 ∷ 5 ∷ 6 ∷ 1 ∷ 1 ∷ replicate 5 7)
+    ∷ (startOf dear 0 (walk 5 6 exit) (record { number = 0; area = replicate 6 7 }), 9 ∷ 5 ∷ 6 ∷ 1 ∷ 1 ∷ dearArea)
+    ∷ (startOf (loop 6) 0 (walk 5 6 exit) (record { number = 0; area = replicate 21 7 }), 33 ∷ 5 ∷ 6 ∷ 1 ∷ 1 ∷ loopArea)
+    ∷ (startOf (loop 6) 0 (walk 5 6 exit) (record { number = 2; area = replicate 21 7 }), 33 ∷ 5 ∷ 6 ∷ 1 ∷ 1 ∷ loopArea)
+    ∷ (startOf (loop 6) 0 (walk 5 6 exit) (record { number = 1; area = replicate 21 7 }), 0 ∷ 1 ∷ 0 ∷ 0 ∷ 1 ∷ loopArea)
+    ∷ (startOf (loopWith (2 ∷ 6 ∷ [])) 0 (walk 5 6 exit) (record { number = 1; area = replicate 21 7 }), 0 ∷ 1 ∷ 0 ∷ 2 ∷ 1 ∷ loopArea)
+    ∷ (startOf (loopWith (2 ∷ 6 ∷ [])) 0 (walk 5 6 exit) (record { number = 2; area = replicate 21 7 }), 0 ∷ 1 ∷ 0 ∷ 0 ∷ 2 ∷ loopArea)
     -- a bounded start: 11 before 33; 0: at the entry, or diverted at place 1
     ∷ (enterOf (2 ∷ []) (walk 5 6 exit) 0, 11 ∷ 5 ∷ 6 ∷ 1 ∷ 1 ∷ [])
     ∷ (enterOf threeSeven (walk 5 6 exit) 0, 33 ∷ 5 ∷ 6 ∷ 1 ∷ 1 ∷ [])
@@ -260,9 +260,72 @@ refusals =
       0 ∷ 1 ∷ 0 ∷ 2 ∷ 1 ∷ [],
     )
     -- the monitor with each budget: diverted where nothing fits, and at the turn that its own budget does not leave
-    ∷ (monitorOf (loopWith (2 ∷ 6 ∷ [])) 1 (1 ∷ []), 32 ∷ 1 ∷ 0 ∷ 2 ∷ [])
-    ∷ (monitorOf (loopWith (3 ∷ 6 ∷ [])) 1 (1 ∷ 1 ∷ []), 0 ∷ 0 ∷ 3 ∷ 3 ∷ 2 ∷ [])
-    ∷ (monitorOf (loopWith (3 ∷ 6 ∷ [])) 2 (1 ∷ 1 ∷ []), 0 ∷ 0 ∷ 3 ∷ 6 ∷ 0 ∷ [])
+    ∷ (monitorOf (loopWith (2 ∷ 6 ∷ [])) 0 1 (1 ∷ []), 32 ∷ 1 ∷ 0 ∷ 2 ∷ [])
+    ∷ (monitorOf (loopWith (3 ∷ 6 ∷ [])) 0 1 (1 ∷ 1 ∷ []), 0 ∷ 0 ∷ 3 ∷ 3 ∷ 2 ∷ [])
+    ∷ (monitorOf (loopWith (3 ∷ 6 ∷ [])) 0 2 (1 ∷ 1 ∷ []), 0 ∷ 0 ∷ 3 ∷ 6 ∷ 0 ∷ [])
+    -- THE HANDLER'S COST. A build: the document's example with 1 less of 9 is that with 8, with 3 less of 12 that with 9; with 1 less of 13 nothing is
+    -- diverted, and the sheet carries 12; with all of 9 nothing fits; with more it is 43
+    ∷ (
+      sheetWith (paper 9) 1,
+      0 ∷ 0 ∷ 7 ∷ 8 ∷ 8
+          ∷ 1 ∷ 8 ∷ 1 ∷ 2 ∷ 0 ∷ 0 ∷ 3 ∷ 8 ∷ 2 ∷ 4 ∷ 3 ∷ 4 ∷ 5 ∷ 6 ∷ 5 ∷ 6 ∷ 2 ∷ 6 ∷ 7 ∷ 1 ∷ 8
+          ∷ 3 ∷ 0 ∷ 4 ∷ 3 ∷ 5 ∷ 0 ∷ 6 ∷ 0 ∷ 6 ∷ 0 ∷ 7 ∷ 7 ∷ 0 ∷ 0 ∷ 2 ∷ 0 ∷ [],
+    )
+    ∷ (sheetWith (paper 12) 3, 0 ∷ 0 ∷ nine)
+    ∷ (
+      sheetWith (paper 13) 1,
+      0 ∷ 0 ∷ 8 ∷ 9 ∷ 12
+          ∷ 1 ∷ 12 ∷ 1 ∷ 2 ∷ 0 ∷ 0 ∷ 3 ∷ 12 ∷ 2 ∷ 4 ∷ 7 ∷ 4 ∷ 5 ∷ 10 ∷ 5 ∷ 6 ∷ 6 ∷ 6 ∷ 7 ∷ 1 ∷ 8 ∷ 8 ∷ 5 ∷ 9
+          ∷ 3 ∷ 0 ∷ 4 ∷ 3 ∷ 5 ∷ 0 ∷ 6 ∷ 0 ∷ 6 ∷ 0 ∷ 7 ∷ 7 ∷ 8 ∷ 0 ∷ 2 ∷ 0 ∷ 2 ∷ 0 ∷ [],
+    )
+    ∷ (sheetWith (paper 9) 9, 9 ∷ [])
+    ∷ (sheetWith (paper 9) 10, 43 ∷ [])
+    -- each of two budgets is lowered; the smallest to 0, which nothing fits
+    ∷ (sheetWith (loopWith (4 ∷ 8 ∷ [])) 1, 0 ∷ 0 ∷ threeSeven)
+    ∷ (
+      sheetWith (loopWith (3 ∷ 9 ∷ [])) 3,
+      0 ∷ 0 ∷ 0 ∷ 4 ∷ 5 ∷ 2 ∷ 0 ∷ 6 ∷ 0 ∷ 1
+          ∷ 1 ∷ 6 ∷ 1 ∷ 2 ∷ 0 ∷ 0 ∷ 3 ∷ 3 ∷ 2 ∷ 3 ∷ 6 ∷ 4
+          ∷ 4 ∷ 0 ∷ 0 ∷ 3 ∷ 2 ∷ 0 ∷ 3 ∷ 5 ∷ 2 ∷ 0 ∷ [],
+    )
+    -- the area goes by the lowered budget: 21 one byte short of it, and what is behind it stays; under 43, before 8 and 21, all stays
+    ∷ (
+      buildOf (record { sheet = loop 7; handler = 1; area = replicate 20 7; output = [] }),
+      21 ∷ replicate 20 7,
+    )
+    ∷ (
+      buildOf (record { sheet = loop 7; handler = 1; area = replicate 24 7; output = [] }),
+      22 ∷ (loopArea ++ replicate 3 7),
+    )
+    ∷ (
+      buildOf (record { sheet = loop 7; handler = 8; area = replicate 24 7; output = 9 ∷ [] }),
+      43 ∷ (replicate 24 7 ++ (9 ∷ [])),
+    )
+    ∷ (buildOf (record { sheet = exitChained; handler = 1; area = []; output = 9 ∷ [] }), 43 ∷ 9 ∷ [])
+    -- a guarded move by the lowered budget: 33 above it, the loop's turn that it does not leave; a guarded start; 43 leaves walk and area
+    ∷ (
+      guardedOf (loop 7) 1 (walk 3 7 going) (record { choice = 1; area = replicate 21 7 }),
+      33 ∷ 3 ∷ 7 ∷ 0 ∷ 1 ∷ loopArea,
+    )
+    ∷ (
+      guardedOf (loop 9) 3 (walk 3 6 going) (record { choice = 1; area = replicate 21 7 }),
+      0 ∷ 3 ∷ 6 ∷ 2 ∷ 1 ∷ loopArea,
+    )
+    ∷ (
+      guardedOf (loopWith (5 ∷ 8 ∷ [])) 2 (walkWith 1 3 3 going) (record { choice = 1; area = replicate 21 7 }),
+      0 ∷ 3 ∷ 3 ∷ 2 ∷ 1 ∷ loopArea,
+    )
+    ∷ (
+      guardedOf (loop 7) 8 (walk 0 0 going) (record { choice = 1; area = 7 ∷ [] }),
+      43 ∷ 0 ∷ 0 ∷ 0 ∷ 1 ∷ 7 ∷ [],
+    )
+    ∷ (startOf (loopWith (4 ∷ 8 ∷ [])) 2 (walk 5 6 exit) (record { number = 1; area = replicate 21 7 }), 0 ∷ 1 ∷ 0 ∷ 2 ∷ 1 ∷ loopArea)
+    ∷ (startOf (loopWith (4 ∷ 8 ∷ [])) 2 (walk 5 6 exit) (record { number = 2; area = replicate 21 7 }), 0 ∷ 1 ∷ 0 ∷ 0 ∷ 2 ∷ loopArea)
+    ∷ (startOf (loopWith (4 ∷ 8 ∷ [])) 5 (walk 5 6 exit) (record { number = 0; area = 7 ∷ [] }), 43 ∷ 5 ∷ 6 ∷ 1 ∷ 1 ∷ 7 ∷ [])
+    -- the monitor: a path of cost 6 is kept with 1 less of 7, and diverted with 2 less
+    ∷ (monitorOf (loop 7) 1 1 (1 ∷ 1 ∷ 2 ∷ []), 0 ∷ 0 ∷ 0 ∷ 2 ∷ 6 ∷ 1 ∷ [])
+    ∷ (monitorOf (loop 7) 2 1 (1 ∷ 1 ∷ 2 ∷ []), 0 ∷ 0 ∷ 32 ∷ 3 ∷ 3 ∷ 2 ∷ [])
+    ∷ (monitorOf (loopWith (4 ∷ 8 ∷ [])) 2 1 (1 ∷ []), 32 ∷ 1 ∷ 0 ∷ 2 ∷ [])
     -- the listing gives all budgets
     ∷ (
       listingFor (inBytes (loopWith (3 ∷ 7 ∷ []))),

@@ -13,20 +13,21 @@ use Rattle.theory.specs.Margins.{marginsIn}
 use Rattle.calls.specs.SheetGraph.{task, boundedSheet}
 use Rattle.calls.specs.Program.{listingOrder}
 
--- "blocks, bounded copies and bounded edges" of an accepted graph sheet, "the margin of every copy", and "each block that no kept path enters"
+-- "blocks, bounded copies and bounded edges" of an accepted graph sheet, "the margin of every copy", and "each block that no kept path enters";
+-- "K1's report take[s] h as 0"
 abbrev pub acceptedFigures : List ℕ → Figures
 acceptedFigures w =
-    let t = boundedSheet w in
+    let t = boundedSheet w 0 in
     record {
       answer = 0;
       blocks = header w .blocks;
       copies = heading t .copies;
       edges = heading t .edges;
-      margins = marginsIn (task w);
+      margins = marginsIn (task w 0);
       unused = unusedBlocks (header w .blocks) t;
     }
 
--- of a graph sheet; the numbers are the build's without 21 and 22
+-- of a graph sheet; the numbers are the build's without 21, 22 and 43
 unfoldable pub sheetFigures : List ℕ → Figures
 sheetFigures w = elim (refused listingOrder w) [ zero ↦ acceptedFigures w | suc n ↦ refusedAs (suc n) ]
 

@@ -1,5 +1,6 @@
 -- THE STARTS as calls: a walk that sets out with a chosen budget, on a graph sheet and on a bounded sheet (document 02, K2: "Its start sets a
--- lent walk from the sheet and passes a move's checks of sheet and work area"). Rests on base Lists and Checks, theory, formats, Weigh, Moves.
+-- lent walk from the sheet and passes a move's checks of sheet and work area"; K6). Rests on base Lists and Checks, theory, formats, Weigh, Moves.
+use mathlib.Core.Bool.{Bool}
 use mathlib.Core.List.{List, [], _∷_, _++_}
 use mathlib.Core.Option.{Option, some, none}
 use Prim.Native.Nat.{ℕ, zero, suc}
@@ -36,28 +37,32 @@ pub record Outset : Type 0 where
 
 pub record OutsetOn : Type 0 where
   pub sheet : List ℕ
+  pub handler : ℕ
   pub outset : Outset
 
-abbrev weighing : OutsetOn → Weighing
-weighing i = record { sheet = i .sheet; area = i .outset .area }
+abbrev pub weighing : OutsetOn → Weighing
+weighing i = record { sheet = i .sheet; handler = i .handler; area = i .outset .area }
+
+abbrev pub numberOutside : OutsetOn → Bool
+numberOutside i = outside 1 (length (task (i .sheet) (i .handler) .budgets)) (i .outset .number)
 
 -- a move's checks of sheet and work area, and "a budget number outside the sheet is 33"
 unfoldable pub guardedStartOrder : Order OutsetOn
-guardedStartOrder = over weighing weighOrder ++ ((33, λ i. outside 1 (length (task (i .sheet) .budgets)) (i .outset .number)) ∷ [])
+guardedStartOrder = over weighing weighOrder ++ ((33, numberOutside) ∷ [])
 
 pub record Started : Type 0 where
   pub answer : ℕ
   pub walk : Budgeted
   pub area : List ℕ
 
--- the walk before, s, plays no part, and is kept under a refusal
-unfoldable pub guardedStart : List ℕ → Budgeted → Outset → Started
-guardedStart w s i =
-    let a = refused guardedStartOrder (record { sheet = w; outset = i }) in
+-- on a sheet with the handler's cost h; the walk before, s, plays no part, and is kept under a refusal
+unfoldable pub guardedStart : List ℕ → ℕ → Budgeted → Outset → Started
+guardedStart w h s i =
+    let a = refused guardedStartOrder (record { sheet = w; handler = h; outset = i }) in
     record {
       answer = a;
-      walk = lentAfter a s (budgeted (i .number) (graphStart (task w .graph) (nth (task w .budgets) (i .number))));
-      area = areaAfter (task w) a (i .area);
+      walk = lentAfter a s (budgeted (i .number) (graphStart (task w h .graph) (nth (task w h .budgets) (i .number))));
+      area = areaAfter (task w h) a (i .area);
     }
 
 -- A BOUNDED START, with a budget number

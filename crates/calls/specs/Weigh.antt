@@ -1,4 +1,4 @@
--- WEIGHING as a call, the front of a build and of a guarded move: the answers 1 to 8, 21 and 9, and the work area after any answer.
+-- WEIGHING as a call, the front of a build and of a guarded move: the answers 1 to 8, 41, 43, 21 and 9, and the work area after any answer.
 -- Rests on base Checks, theory Completions, formats GraphSheet, SheetGraph, Area.
 use mathlib.Core.Bool.{Bool, true, false}
 use mathlib.Core.List.{List, [], _∷_, _++_}
@@ -9,14 +9,21 @@ use Rattle.base.specs.Lists.{isNone, member}
 use Rattle.base.specs.Checks.{Order, refused, over, numbersOf, numbersBefore}
 use Rattle.theory.specs.Completions.{lowOf}
 use Rattle.theory.specs.Tasks.{Task}
-use Rattle.formats.specs.GraphSheet.{sheetOrder}
+use Rattle.formats.specs.GraphSheet.{Handled, handledOrder}
 use Rattle.calls.specs.SheetGraph.{task}
 use Rattle.calls.specs.Area.{areaSize, filled}
 
--- what is lent: a graph sheet and a work area
+-- what is given: a graph sheet, the handler's cost and a work area
 pub record Weighing : Type 0 where
   pub sheet : List ℕ
+  pub handler : ℕ
   pub area : List ℕ
+
+abbrev pub handled : Weighing → Handled
+handled i = record { sheet = i .sheet; handler = i .handler }
+
+abbrev pub taskOf : Weighing → Task
+taskOf i = task (i .sheet) (i .handler)
 
 -- the length that a task asks of its work area
 unfoldable pub taskArea : Task → ℕ
@@ -24,21 +31,21 @@ taskArea T = areaSize (T .blocks) (T .largest)
 
 -- 21: "work area (bytes) shorter than N × (B + 1)"
 unfoldable pub smallArea : Weighing → Bool
-smallArea i = ltb (length (i .area)) (taskArea (task (i .sheet)))
+smallArea i = ltb (length (i .area)) (taskArea (taskOf i))
 
 -- 9: "block 1 has no completion cost at or below B"
 unfoldable pub nothingFits : Task → Bool
 nothingFits T = isNone (lowOf (T .graph) 1 (T .largest))
 
--- "1 to 8, 21, 9", with which both orders begin, in pieces
+-- "1 to 8, 21, 9", with which both orders begin, with 41 and 43 behind 4, in pieces
 abbrev pub areaOrder : Order Weighing
 areaOrder = (21, smallArea) ∷ []
 
 abbrev pub fitOrder : Order Weighing
-fitOrder = (9, λ i. nothingFits (task (i .sheet))) ∷ []
+fitOrder = (9, λ i. nothingFits (taskOf i)) ∷ []
 
 unfoldable pub frontOrder : Order Weighing
-frontOrder = over (λ i. i .sheet) sheetOrder ++ areaOrder
+frontOrder = over handled handledOrder ++ areaOrder
 
 unfoldable pub weighOrder : Order Weighing
 weighOrder = frontOrder ++ fitOrder
@@ -57,4 +64,4 @@ pub record Weighed : Type 0 where
   pub area : List ℕ
 
 unfoldable pub weighed : Weighing → Weighed
-weighed i = let a = refused weighOrder i in record { answer = a; area = areaAfter (task (i .sheet)) a (i .area) }
+weighed i = let a = refused weighOrder i in record { answer = a; area = areaAfter (taskOf i) a (i .area) }

@@ -7,6 +7,8 @@ pub mod Budgets
 pub mod Headings
 -- what conditions 1 to 8 give of an accepted graph sheet: blocks, edges, paid, target-inside, chain-ends, successors-counted
 pub mod Accepted
+-- budgets less a handler's cost, and the conditions with 43: smallest-least, lowered-exactly, lowered-claimed, handled-e, handled-zero
+pub mod Handler
 -- a written bounded sheet reads back: reads, part-reads, met
 pub mod Reading
 -- rule 11, clause by clause, is that a sheet is written from rows that fit: fits-rule; rule11; what it gives behind any header: clauses, chain-inside

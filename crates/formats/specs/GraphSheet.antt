@@ -1,5 +1,5 @@
--- The graph sheet: its header in both versions, its records, its chains, and the conditions 1 to 8 and 41 by number (document 01, "Graph sheet"
--- and the table; document 02, K2). Rests on base Lists and Checks, Limits, Words, Versions.
+-- The graph sheet: its header in both versions, its records, its chains, and the conditions 1 to 8, 41 and 43 by number (document 01, "Graph
+-- sheet" and the table; document 02, K2 and K6). Rests on base Lists and Checks, Limits, Words, Versions.
 use mathlib.Core.Path.{_≡_}
 use mathlib.Core.Bool.{Bool, true, false, _||_, not}
 use mathlib.Core.List.{List, [], _∷_, _++_, map}
@@ -10,7 +10,7 @@ use Rattle.base.specs.Lists.{any, all, each, from}
 use Rattle.base.specs.Checks.{Order, refused, over, outside}
 use Rattle.formats.specs.Limits.{leastWords, leastBlocks, mostBlocks, leastEdges, mostEdges}
 use Rattle.formats.specs.Words.{word, field, chainLength, unsound, targetFrom, nextFrom, edgesFrom}
-use Rattle.formats.specs.Versions.{isSecond, badBudget, badBudgets}
+use Rattle.formats.specs.Versions.{isSecond, badBudget, badBudgets, badHandler}
 
 -- what the header says of the records: N blocks, E edges, and the word at which they begin, counted from 0
 pub record Header : Type 0 where
@@ -65,7 +65,7 @@ module _ (h : Header) (w : List ℕ) where
   unfoldable pub successorCount : ℕ → ℕ
   successorCount v = chainLength nextWord (suc (h .edges)) (firstWord v)
 
--- THE CONDITIONS 1 to 8, by number; 4 and 41 stand in Versions
+-- THE CONDITIONS 1 to 8, by number; 4, 41 and 43 stand in Versions
 
 -- 1: fewer than 3 words
 unfoldable pub short : List ℕ → Bool
@@ -128,6 +128,23 @@ sheetOrder = lengthOrder ++ countsOrder ++ sizeOrder ++ budgetOrder ++ costOrder
 
 unfoldable pub sheetRefusal : List ℕ → ℕ
 sheetRefusal w = refused sheetOrder w
+
+-- WITH THE HANDLER'S COST, as a build and a guarded walk are given it: "43 .. after 41"
+pub record Handled : Type 0 where
+  pub sheet : List ℕ
+  pub handler : ℕ
+
+abbrev pub handlerOrder : Order Handled
+handlerOrder = (43, λ i. badHandler (i .handler) (i .sheet)) ∷ []
+
+unfoldable pub handledOrder : Order Handled
+handledOrder =
+    over (λ i. i .sheet) (lengthOrder ++ countsOrder ++ sizeOrder ++ budgetOrder)
+    ++ handlerOrder
+    ++ over (λ i. i .sheet) (costOrder ++ edgeOrder)
+
+unfoldable pub handledRefusal : List ℕ → ℕ → ℕ
+handledRefusal w h = refused handledOrder (record { sheet = w; handler = h })
 
 -- WHAT THEY LEAVE, behind any header: 2, and a row in which the records have room; 2 and 3, a row of the length that the header says;
 -- 5 to 8, records that hold a graph

@@ -3,9 +3,9 @@
 pub mod Limits
 -- rows of words, chains of records
 pub mod Words
--- the two versions of a sheet, and the budgets in a header
+-- the two versions of a sheet, the budgets in a header, and budgets that are lowered
 pub mod Versions
--- the graph sheet, conditions 1 to 8 and 41, the number of successors
+-- the graph sheet, conditions 1 to 8, 41 and 43, the number of successors
 pub mod GraphSheet
 -- the bounded sheet, written and read
 pub mod BoundedSheet

@@ -5,7 +5,7 @@ use mathlib.Core.Option.{Option, some, none}
 use Prim.Native.Nat.{ℕ, suc}
 use lib.ListN.{length, replicate, set}
 use Rattle.base.specs.Lists.{each}
-use Rattle.formats.specs.GraphSheet.{sheetRefusal, countSuccessors}
+use Rattle.formats.specs.GraphSheet.{sheetRefusal, handledRefusal, countSuccessors}
 use Rattle.formats.specs.Rule11.{boundedRefusal, handOut}
 use Rattle.formats.specs.File.{wordsOf}
 use Rattle.formats.specs.Listing.{decimal, listingOf}
@@ -17,6 +17,8 @@ use Rattle.formats.specs.Samples.{paper, loopSaying, loopWith, nine, thr
 pub data Case : Type 0 where
   -- the conditions 1 to 8 on a graph sheet
   graphOf : List ℕ → Case
+  -- the same and 43, with the handler's cost
+  handledOf : List ℕ → ℕ → Case
   -- the number of successors of a block
   countOf : List ℕ → ℕ → Case
   -- rule 11 on a bounded sheet
@@ -45,6 +47,7 @@ sheetShown (some w) = suc (length w) ∷ w
 -- what the definitions make of it, as a row of numbers
 unfoldable pub outcome : Case → List ℕ
 outcome (graphOf w) = sheetRefusal w ∷ []
+outcome (handledOf w h) = handledRefusal w h ∷ []
 outcome (countOf w v) = let r = countSuccessors w v in r .answer ∷ r .count ∷ []
 outcome (boundedOf t) = boundedRefusal t ∷ []
 outcome (partOf t i) = let r = handOut t i in r .answer ∷ r .words
@@ -134,6 +137,27 @@ refusals =
     ∷ (graphOf (set (loopWith (7 ∷ 7 ∷ [])) 6 1), 41 ∷ [])
     ∷ (graphOf (set (loopWith (6 ∷ 7 ∷ [])) 6 1), 5 ∷ [])
     ∷ (graphOf (set (loopWith (6 ∷ 7 ∷ [])) 12 1), 6 ∷ [])
+    -- 43: h at and one past the budget, or the smallest one, the largest word; also below the largest one
+    ∷ (handledOf (paper 9) 0, 0 ∷ [])
+    ∷ (handledOf (paper 9) 9, 0 ∷ [])
+    ∷ (handledOf (paper 9) 10, 43 ∷ [])
+    ∷ (handledOf (paper 500) 65535, 43 ∷ [])
+    ∷ (handledOf (paper 0) 1, 43 ∷ [])
+    ∷ (handledOf (loopWith (3 ∷ 7 ∷ [])) 3, 0 ∷ [])
+    ∷ (handledOf (loopWith (3 ∷ 7 ∷ [])) 4, 43 ∷ [])
+    ∷ (handledOf (loopWith (0 ∷ 1 ∷ 2 ∷ 3 ∷ [])) 1, 43 ∷ [])
+    -- behind 1 to 4 and 41, before 5 to 8, which a sheet that passes 43 still meets
+    ∷ (handledOf (2 ∷ []) 1, 1 ∷ [])
+    ∷ (handledOf (129 ∷ 1 ∷ 0 ∷ []) 1, 2 ∷ [])
+    ∷ (handledOf (2 ∷ 1 ∷ 0 ∷ []) 1, 3 ∷ [])
+    ∷ (handledOf (paper 501) 502, 4 ∷ [])
+    ∷ (handledOf (loopWith (7 ∷ 7 ∷ [])) 8, 41 ∷ [])
+    ∷ (handledOf (loopWith (7 ∷ 3 ∷ [])) 4, 41 ∷ [])
+    ∷ (handledOf (loopWith []) 1, 41 ∷ [])
+    ∷ (handledOf (set (loopWith (6 ∷ 7 ∷ [])) 6 1) 7, 43 ∷ [])
+    ∷ (handledOf (set (loopWith (6 ∷ 7 ∷ [])) 6 1) 6, 5 ∷ [])
+    ∷ (handledOf (set (loopWith (6 ∷ 7 ∷ [])) 12 1) 7, 43 ∷ [])
+    ∷ (handledOf (set (loopWith (6 ∷ 7 ∷ [])) 12 1) 6, 6 ∷ [])
     -- the number of successors; the sheet's own numbers come before 33
     ∷ (countOf (loopWith (3 ∷ 7 ∷ [])) 3, 0 ∷ 2 ∷ [])
     ∷ (countOf (paper 9) 1, 0 ∷ 1 ∷ [])

@@ -1,5 +1,5 @@
 -- A bounded graph that lays a setting's copies out moves as the monitor does, from every entry: demand 3 without words.
--- Rests on Simulation, Counts, Paths, Reach, Order.
+-- Rests on Simulation, Counts, Cycles, Paths, Reach, Order.
 use mathlib.Core.Path.{_≡_, refl, sym, ap, _∙_}
 use mathlib.Core.Logic.{⊎-elim}
 use mathlib.Core.Bool.{Bool, true, false}
@@ -15,14 +15,15 @@ use Rattle.base.specs.Lists.{chosen}
 use Rattle.theory.specs.Completions.{Graph}
 use Rattle.base.specs.Copy.{Copy, copyOf}
 use Rattle.theory.specs.Copies.{targets, targetNumber}
-use Rattle.theory.specs.Machines.{End, going, exit, diverted, taken, replyAt, reply, answers, final, shown, zeros, Unchanged}
+use Rattle.theory.specs.Machines.{End, going, exit, diverted, taken, replyAt, reply, answers, final, shown, cycles, zeros, Unchanged}
 use Rattle.theory.specs.Walks.{Walk, startAt, starting, endAt, mostMoves, monitor, CopyWalk, entered, copyTake, copyWalk}
 use Rattle.theory.specs.Walks.{Bounded, boundedTake, boundedWalk}
 use Rattle.theory.specs.Setting.{WellFormed, Setting, Entry, starts, copies, exitCopy, startCopy, entryPlace, LaysOut, Agrees}
 use Rattle.theory.specs.Setting.{PathsKept}
 use Rattle.base.proofs.Lists.{chosen-map, chosen-mem, chosen-le, chosen-some, Distinct, one-place}
 use Rattle.theory.proofs.Completions.{low-some, covers}
-use Rattle.theory.proofs.Runs.{Alike, neither, both, Keeps, agree, agree-all, shown-all}
+use Rattle.theory.proofs.Runs.{Alike, neither, both, Keeps, agree, agree-all, shown-all, cycles-all}
+use Rattle.theory.proofs.Cycles.{monitor-cycles}
 use Rattle.theory.proofs.Simulation.{follows-keeps, follows-all, follows-start}
 use Rattle.theory.proofs.Counts.{Timely, timely-start, timely-all, early, never-stuck}
 use Rattle.theory.proofs.Paths.{path-completion, runs, only}
@@ -158,6 +159,18 @@ module _ (S : Setting) (m : Bounded) (Y : LaysOut S m) where
         shown-all (copyWalk g) (boundedWalk m) Sits sits-keeps (λ u. u .copy .block) (λ s. m .block (s .place))
         (λ u s h. sym (Y .block (s .place) (u .copy) (h .place))) ks setOut (startAt (entryPlace S E)) sits-start
 
+    -- the three enter the same blocks
+    sits-cycles : (ks : List ℕ)
+        → cycles (reply (boundedWalk m)) (g .cost) (λ s. m .block (s .place)) (λ s. s .end) (startAt (entryPlace S E)) ks
+        ≡ final (reply (monitor g (E .budget))) starting ks .count
+    unfolding startAt boundedWalk copyWalk monitor
+    sits-cycles ks =
+        sym (cycles-all (copyWalk g) (boundedWalk m) Sits sits-keeps (λ u. u .copy .block) (λ s. m .block (s .place))
+        (λ u s h. sym (Y .block (s .place) (u .copy) (h .place))) (g .cost) ks setOut (startAt (entryPlace S E)) sits-start)
+        ∙ sym (cycles-all (monitor g (E .budget)) (copyWalk g) _ (follows-keeps g (S .laws) (E .budget)) (λ s. s .place) (λ u. u .copy .block)
+        (λ s u h. sym (h .block)) (g .cost) ks starting setOut (follows-start g (S .laws) (E .budget) (E .low) (E .fits)))
+        ∙ sym (monitor-cycles g (E .budget) ks starting ∙ zero-add _)
+
     pub timely : (ks : List ℕ) → Timely g (S .laws) (E .budget) (final (reply (copyWalk g)) setOut ks)
     timely ks = timely-all g (S .laws) (E .budget) ks setOut (timely-start g (S .laws) (E .budget) (E .low) (E .fits))
 
@@ -172,6 +185,7 @@ module _ (S : Setting) (m : Bounded) (Y : LaysOut S m) where
           block = Y .block _ _ (s .1 .place) ∙ f .1 .block;
           end = sym (s .1 .end) ∙ sym (f .1 .end);
           count = f .1 .count;
+          spent = sits-cycles ks;
           moves = counted m ks (startAt (entryPlace S E)) ∙ zero-add _;
           most = omega (arith, s .1 .count, within-most g (S .laws) (E .budget) _ t _ (s .1 .end));
           monitor-onward = λ e. agree (monitor g (E .budget)) (copyWalk g) _ (follows-keeps g (S .laws) (E .budget)) _ _ (f .1) 1 .answer

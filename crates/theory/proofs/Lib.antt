@@ -9,6 +9,8 @@ pub mod Runs
 pub mod Simulation
 -- a walk over copies ends within one move more than its budget and is never stuck: timely-all, early, never-stuck
 pub mod Counts
+-- the monitor counts the cycles of the blocks that it enters: monitor-cycles
+pub mod Cycles
 -- a path runs unchanged exactly where it costs at most the low of its first copy: runs, only
 pub mod Paths
 -- the copies are exactly those that are reached from the start copies: reached-in, in-reached

@@ -4,9 +4,10 @@ use mathlib.Core.Path.{_≡_, refl, sym, ap, ap₂, _∙_}
 use mathlib.Core.Logic.{_≢_, _↔_}
 use mathlib.Core.List.{List, [], _∷_, _++_, map, List·Memᴰ, List·Memᴰ·head, List·Memᴰ·tail}
 use mathlib.Core.Option.{Option, some, none}
-use Prim.Native.Nat.{ℕ}
+use Prim.Native.Nat.{ℕ, _+_}
 use Rattle.base.specs.Lists.{chosen}
-use Rattle.theory.specs.Machines.{End, going, exit, diverted, Reply, Machine, taken, replyAt, reply, answers, final, shown, Unchanged}
+use Rattle.theory.specs.Machines.{End, going, exit, diverted, Reply, Machine, taken, replyAt, reply, stepCycles, answers, final, shown, cycles}
+use Rattle.theory.specs.Machines.{Unchanged}
 
 module _ {S X U Y : Type 0} (m : Machine S X) (n : Machine U Y) (R : S → U → Type 0) where
   -- two targets are answered alike
@@ -80,6 +81,17 @@ module _ {S X U Y : Type 0} (m : Machine S X) (n : Machine U Y) (R : S → U →
       let a = agree m n R K s u h k in
       ap₂ (λ x xs. x ∷ xs) (alike s u h) (shown-all ks (reply m s k .after) (reply n u k .after) (a .after))
 
+  -- and so are the cycles
+  pub cycles-all : (cost : ℕ → ℕ) (ks : List ℕ) (s : S) (u : U) → R s u
+      → cycles (reply m) cost view (m .stands) s ks ≡ cycles (reply n) cost look (n .stands) u ks
+  unfolding cycles
+  cycles-all cost [] s u h = refl
+  cycles-all cost (k ∷ ks) s u h =
+      let a = agree m n R K s u h k in
+      ap₂ (λ (x y : ℕ). x + y)
+      (λ i. stepCycles cost (a .answer i) (K .stand _ _ (a .after) i) (alike _ _ (a .after) i))
+      (cycles-all cost ks (reply m s k .after) (reply n u k .after) (a .after))
+
 -- a machine that has ended stays
 pub stays : {S X : Type 0} (m : Machine S X) (s : S) → m .stands s ≢ going → (ks : List ℕ) → final (reply m) s ks ≡ s
 unfolding final reply replyAt
@@ -103,6 +115,8 @@ pub record RunsAs {S T I J : Type 0} (form : S → T) (call : T → I → Reply 
   pub answer : answers call (form s) is ≡ answers step s js
   pub last : final call (form s) is ≡ form (final step s js)
   pub show : (view : T → ℕ) → shown call view (form s) is ≡ shown step (λ s. view (form s)) s js
+  pub spend : (cost : ℕ → ℕ) (view : T → ℕ) (stands : T → End)
+      → cycles call cost view stands (form s) is ≡ cycles step cost (λ s. view (form s)) (λ s. stands (form s)) s js
 
 pub unchanged-as : {S T I : Type 0} {form : S → T} {call : T → I → Reply T} {step : S → I → Reply S} {s : S} {is : List I}
     → RunsAs form call step s is is
@@ -122,8 +136,8 @@ module _ {S T X I : Type 0} (m : Machine S X) (form : S → T) (call : T → I �
     (kept : (s : S) → P s → m .stands s ≡ going → (k : ℕ) (x : X) → chosen (m .targets s) k ≡ some x → P (m .take s x))
     (same : (s : S) → P s → (i : I) → Q i → call (form s) i ≡ formed form (reply m s (choice i))) where
   pub runs-as : (is : List I) → ((i : I) → List·Memᴰ i is → Q i) → (s : S) → P s → RunsAs form call (reply m) s is (map choice is)
-  unfolding answers final shown
-  runs-as [] q s h = record { answer = refl; last = refl; show = λ view. refl }
+  unfolding answers final shown cycles
+  runs-as [] q s h = record { answer = refl; last = refl; show = λ view. refl; spend = λ cost view stands. refl }
   runs-as (i ∷ is) q s h =
       let e = same s h i (q i (List·Memᴰ·head refl)) in
       let r = runs-as is (λ j n. q j (List·Memᴰ·tail n)) (reply m s (choice i) .after) (keeps m P kept s h (choice i)) in
@@ -131,6 +145,10 @@ module _ {S T X I : Type 0} (m : Machine S X) (form : S → T) (call : T → I �
         answer = ap₂ (λ x xs. x ∷ xs) (ap (λ (z : Reply T). z .answer) e) (ap (λ (z : Reply T). answers call (z .after) is) e ∙ r .answer);
         last = ap (λ (z : Reply T). final call (z .after) is) e ∙ r .last;
         show = λ view. ap (λ xs. view (form s) ∷ xs) (ap (λ (z : Reply T). shown call view (z .after) is) e ∙ r .show view);
+        spend = λ cost view stands.
+            ap₂ (λ (x y : ℕ). x + y)
+            (ap (λ (z : Reply T). stepCycles cost (z .answer) (stands (z .after)) (view (z .after))) e)
+            (ap (λ (z : Reply T). cycles call cost view stands (z .after) is) e ∙ r .spend cost view stands);
       }
 
 -- STEPS ON A FORM that go as steps on what it stands for run as they do
@@ -159,6 +177,16 @@ module _ {S U I : Type 0} (form : S → U) (step : S → I → Reply S) (call : 
   shown-as view (i ∷ is) s =
       ap (λ (xs : List ℕ). view (form s) ∷ xs)
       (shown-as view is (step s i .after) ∙ ap (λ (z : U). shown call view z is) (same s i .after))
+
+  pub cycles-as : (cost : ℕ → ℕ) (view : U → ℕ) (stands : U → End) (is : List I) (s : S)
+      → cycles step cost (λ s. view (form s)) (λ s. stands (form s)) s is ≡ cycles call cost view stands (form s) is
+  unfolding cycles
+  cycles-as cost view stands [] s = refl
+  cycles-as cost view stands (i ∷ is) s =
+      let e = same s i in
+      ap₂ (λ (x y : ℕ). x + y)
+      (λ j. stepCycles cost (e .answer j) (stands (e .after j)) (view (e .after j)))
+      (cycles-as cost view stands is (step s i .after) ∙ ap (λ (z : U). cycles call cost view stands z is) (e .after))
 
   pub unchanged-form : (view : U → ℕ) (stands : U → End) (s : S) (is : List I) (bs : List ℕ)
       → Unchanged step (λ s. view (form s)) (λ s. stands (form s)) s is bs ↔ Unchanged call view stands (form s) is bs

@@ -4,15 +4,16 @@ use mathlib.Core.Path.{_≡_, refl, sym, ap, ap₂, _∙_}
 use mathlib.Core.Logic.{_≢_}
 use mathlib.Core.List.{List, [], _∷_}
 use mathlib.Core.Option.{none, Option·some-injective}
-use Prim.Native.Nat.{ℕ, zero, suc}
+use Prim.Native.Nat.{ℕ, zero, suc, _+_}
 use native.Mathlib.Omega.{arith}
+use native.Mathlib.Nat.{zero-add}
 use borrow.Author.Tests.{ne-eqb}
 use lib.ListN.{length, replicate}
 use Rattle.base.specs.Lists.{chosen}
 use Rattle.base.specs.Copy.{Copy}
 use Rattle.base.proofs.Lists.{chosen-le}
 use Rattle.theory.specs.Completions.{lowOf}
-use Rattle.theory.specs.Machines.{End, going, exit, diverted, Reply, Machine, replyAt, reply, answers, final, zeros}
+use Rattle.theory.specs.Machines.{End, going, exit, diverted, Reply, Machine, replyAt, reply, stepCycles, answers, final, cycles, zeros}
 use Rattle.theory.specs.Walks.{Walk, stopped, mostMoves, isExit, InShape, monitor, Bounded, boundedWalk}
 use Rattle.theory.specs.Setting.{Setting, copies, LaysOut, Agrees, PathsKept}
 use Rattle.theory.proofs.Completions.{low-none}
@@ -37,6 +38,13 @@ module _ {S X : Type 0} (m : Machine S X) (s : S) (e : m .stands s ≡ diverted)
   answers-stopped (k ∷ ks) =
       ap₂ (λ x xs. x ∷ xs) (ap (λ (r : Reply S). r .answer) (stays k))
       (ap (λ (r : Reply S). answers (reply m) (r .after) ks) (stays k) ∙ answers-stopped ks)
+
+  pub cycles-stopped : (cost : ℕ → ℕ) (view : S → ℕ) (stands : S → End) (ks : List ℕ) → cycles (reply m) cost view stands s ks ≡ 0
+  unfolding cycles stepCycles
+  cycles-stopped cost view stands [] = refl
+  cycles-stopped cost view stands (k ∷ ks) =
+      ap (λ (r : Reply S). stepCycles cost (r .answer) (stands (r .after)) (view (r .after)) + cycles (reply m) cost view stands (r .after) ks) (stays k)
+      ∙ zero-add _ ∙ cycles-stopped cost view stands ks
 
 no-zeros : (n : ℕ) → zeros (replicate n 32) ≡ 0
 unfolding zeros
@@ -86,6 +94,7 @@ module _ (S : Setting) (b : ℕ) where
           block = ap (λ (s : Walk). m .block (s .place)) c ∙ first-block ∙ sym (ap (λ (s : Walk). s .place) a);
           end = c-end ∙ sym a-end;
           count = omega (arith, ap (λ (s : Walk). s .count) a);
+          spent = cycles-stopped (boundedWalk m) stopped refl _ _ _ ks ∙ sym (ap (λ (s : Walk). s .count) a);
           moves = ap (λ (s : Walk). s .count) c ∙ sym (ap zeros (answers-stopped (boundedWalk m) stopped refl ks) ∙ no-zeros (length ks));
           most = rw (c) (omega arith);
           monitor-onward = λ e. absurd (ended _ a-end .0 e);

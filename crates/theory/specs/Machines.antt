@@ -3,7 +3,7 @@
 use mathlib.Core.Path.{_≡_}
 use mathlib.Core.List.{List, [], _∷_}
 use mathlib.Core.Option.{Option, some, none}
-use Prim.Native.Nat.{ℕ, zero, suc}
+use Prim.Native.Nat.{ℕ, zero, suc, _+_}
 use lib.ListN.{length, replicate}
 use Rattle.base.specs.Lists.{chosen}
 
@@ -36,6 +36,14 @@ module _ {S X : Type 0} (m : Machine S X) where
   unfoldable pub reply : S → ℕ → Reply S
   reply s k = replyAt (m .stands s) s k
 
+-- the cycles that a step takes, where a block v costs `cost v`, by its answer, how it stands then and the block that it shows then: a step that
+-- is accepted enters that block, unless it diverts
+unfoldable pub stepCycles : (ℕ → ℕ) → ℕ → End → ℕ → ℕ
+stepCycles cost zero going v = cost v
+stepCycles cost zero exit v = cost v
+stepCycles cost zero diverted v = 0
+stepCycles cost (suc n) e v = 0
+
 -- steps one after the other, each with the state as the last one left it
 module _ {S I : Type 0} (step : S → I → Reply S) where
   -- the row of answers
@@ -52,6 +60,13 @@ module _ {S I : Type 0} (step : S → I → Reply S) where
   unfoldable pub shown : (S → ℕ) → S → List I → List ℕ
   shown view s [] = view s ∷ []
   shown view s (i ∷ is) = view s ∷ shown view (step s i .after) is
+
+  -- the cycles of all blocks that are entered
+  unfoldable pub cycles : (ℕ → ℕ) → (S → ℕ) → (S → End) → S → List I → ℕ
+  cycles cost view stands s [] = 0
+  cycles cost view stands s (i ∷ is) =
+      let r = step s i in
+      stepCycles cost (r .answer) (stands (r .after)) (view (r .after)) + cycles cost view stands (r .after) is
 
   -- a list that runs unchanged: each answer is 0, the blocks bs are shown in order, the first before any step, and the end is the exit
   pub record Unchanged (view : S → ℕ) (stands : S → End) (s : S) (is : List I) (bs : List ℕ) : Type 0 where

@@ -11,7 +11,7 @@ use Rattle.base.specs.Copy.{Copy, copyOf, numberFrom}
 use Rattle.theory.specs.Completions.{Graph, Completion, lowOf}
 use Rattle.theory.specs.Copies.{targets, targetNumber, startCopies}
 use Rattle.theory.specs.Tasks.{Task, copiesIn}
-use Rattle.theory.specs.Machines.{going, diverted, reply, answers, final, zeros, Unchanged}
+use Rattle.theory.specs.Machines.{going, diverted, reply, answers, final, cycles, zeros, Unchanged}
 use Rattle.theory.specs.Walks.{Walk, endAt, mostMoves, monitor, Bounded, boundedWalk, Path}
 
 -- the start and the exit cost nothing, a block with an edge other than the start costs something, no edge leads to the start
@@ -103,6 +103,8 @@ module _ (S : Setting) where
       pub block : m .block (boundedEnd .place) ≡ monitorEnd .place
       pub end : boundedEnd .end ≡ monitorEnd .end
       pub count : monitorEnd .count ≤ b
+      -- the blocks that the bounded walk enters cost what the monitor counts
+      pub spent : cycles (reply (boundedWalk m)) (S .task .graph .cost) (λ s. m .block (s .place)) (λ s. s .end) t ks ≡ monitorEnd .count
       pub moves : boundedEnd .count ≡ zeros (answers (reply (boundedWalk m)) t ks)
       pub most : boundedEnd .count ≤ mostMoves b (boundedEnd .end)
       pub monitor-onward : monitorEnd .end ≡ going → reply (monitor (S .task .graph) b) monitorEnd 1 .answer ≡ 0
