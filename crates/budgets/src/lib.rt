@@ -1,4 +1,4 @@
-// Conditions 4 and 41, on the budgets that both kinds of sheet name in their header. Below the public calls.
+// Conditions 4 and 41, on the budgets that both kinds of sheet name in their header, and 43, on a graph sheet's. Below the public calls.
 // Rests on words, headers; the promises are equations with formats Versions and GraphSheet.
 ghost use mathlib.Core.Path.{_≡_};
 ghost use mathlib.Core.Bool.{not};
@@ -8,8 +8,9 @@ ghost use lib.ListN.{length};
 ghost use Rattle.base.specs.Lists.{any, rising};
 ghost use Rattle.base.specs.Checks.{refused};
 ghost use Rattle.formats.specs.Limits.{leastWords, mostBudget};
-ghost use Rattle.formats.specs.Versions.{budgetsAt, budgetCount, badBudget, badBudgets};
+ghost use Rattle.formats.specs.Versions.{budgetsAt, budgetCount, badBudget, badBudgets, badHandler};
 ghost use Rattle.formats.specs.GraphSheet.{budgetOrder};
+use headers::budget;
 use headers::budgets_part;
 use words::LEAST_BUDGETS;
 use words::MOST_BUDGET;
@@ -68,6 +69,15 @@ pub fn bad_budgets(s: &[u16]) -> bool
         return true;
     }
     not_rising(bs)
+}
+
+// Condition 43: "h above the smallest budget", which is the first.
+pub fn bad_handler(s: &[u16], h: u16) -> bool
+    requires { ⌜ (leastWords ≤ length (now s)) × (budgetsAt (now s) + budgetCount (now s) ≤ length (now s)) × (1 ≤ budgetCount (now s)) ⌝ }
+    ensures { λ r. ⌜ r ≡ badHandler h (now (s .entry)) ⌝ }
+{
+    let b = budget(s, 1);
+    b < h as usize
 }
 
 // 4, then 41.

@@ -1,5 +1,5 @@
 // THE BUILD IN ROWS THAT ARE LENT: a weighed sheet's copies, their numbers and the words of its bounded sheet. Below the public calls.
-// Rests on weigh_sheet, look, descend, number, output.
+// Rests on lowered, weigh_sheet, look, descend, number, output.
 ghost use mathlib.Core.Path.{_≡_};
 ghost use mathlib.Core.Bool.{false};
 ghost use Prim.Native.Nat.{suc, _-_, _≤_, _<_};
@@ -22,14 +22,16 @@ ghost use Rattle.output.specs.Answer.{answerAt, outputAt};
 ghost use Rattle.build_rows.specs.Within.{Passes};
 use descend::reach;
 use graph_row::blocks_in;
-use headers::budgets_part;
 use headers::is_second;
-use headers::largest;
+use headers::read_budgets;
 use look::fill_lows;
+use lowered::lowered_largest;
+use lowered::put_lowered;
 use number::number;
 use output::write_numbered;
 use weigh_sheet::weigh_into;
 use words::MOST_BOUNDED_EDGES;
+use words::MOST_BUDGETS;
 
 // BEHIND WEIGHING
 
@@ -87,11 +89,12 @@ fn build_weighed(
     write_numbered(row, marks, table, out, bs, second, b, copies, edges)
 }
 
-// BEHIND 1 TO 8 AND 21
+// BEHIND 1 TO 8, 41, 43 AND 21
 
-// The build in rows that are lent.
+// The build in rows that are lent: each budget is lowered by the handler's cost h, and behind this nothing knows h.
 pub fn build_in_rows(
     s: &[u16],
+    h: u16,
     area: &mut [u8],
     out: &mut [u16],
     row: &mut [u16],
@@ -100,21 +103,24 @@ pub fn build_in_rows(
     table: &mut [u16],
     marks: &mut [u8],
 ) -> u16
-    requires { ⌜ Passes (now s) (now area) ⌝ }
-    requires { ⌜ Rows (now s) (now row) (now nexts) (now has) ⌝ }
-    requires { ⌜ (cellCount (task (now s) .blocks) (task (now s) .largest) ≤ length (now table))
-        × (cellCount (task (now s) .blocks) (task (now s) .largest) ≤ length (now marks)) ⌝ }
+    requires { ⌜ Passes (now s) h (now area) ⌝ }
+    requires { ⌜ Rows (now s) (task (now s) h .largest) (now row) (now nexts) (now has) ⌝ }
+    requires { ⌜ (cellCount (task (now s) h .blocks) (task (now s) h .largest) ≤ length (now table))
+        × (cellCount (task (now s) h .blocks) (task (now s) h .largest) ≤ length (now marks)) ⌝ }
     requires { ⌜ Clear (now marks) ⌝ }
-    ensures { λ a. ⌜ a ≡ built (now (s .entry)) (now (area .entry)) (now (out .entry)) .answer ⌝ }
-    ensures { λ _. ⌜ now (area .exit) ≡ built (now (s .entry)) (now (area .entry)) (now (out .entry)) .area ⌝ }
-    ensures { λ _. ⌜ now (out .exit) ≡ built (now (s .entry)) (now (area .entry)) (now (out .entry)) .output ⌝ }
+    ensures { λ a. ⌜ a ≡ built (now (s .entry)) h (now (area .entry)) (now (out .entry)) .answer ⌝ }
+    ensures { λ _. ⌜ now (area .exit) ≡ built (now (s .entry)) h (now (area .entry)) (now (out .entry)) .area ⌝ }
+    ensures { λ _. ⌜ now (out .exit) ≡ built (now (s .entry)) h (now (area .entry)) (now (out .entry)) .output ⌝ }
 {
-    let a = weigh_into(s, row, nexts, has, area);
+    let b = lowered_largest(s, h);
+    let a = weigh_into(s, row, nexts, has, area, b);
     if a != 0 {
         return a;
     }
-    let b = largest(s);
     let second = is_second(s);
-    let bs = budgets_part(s);
-    build_weighed(row, area, table, marks, out, bs, second, b)
+    let at = read_budgets(s);
+    let n = at.count;
+    let mut four = [0u16; MOST_BUDGETS];
+    put_lowered(s, h, &mut four);
+    build_weighed(row, area, table, marks, out, &four[..n], second, b)
 }

@@ -1,4 +1,4 @@
 -- What the contracts of weighing a sheet cite.
--- Rests on formats, calls, masks.
--- rows for the weighing of a sheet
+-- Rests on base, theory, formats, masks.
+-- rows for the weighing of a sheet, and the answer of 9's stage: Rows, fitAnswer
 pub mod Rows

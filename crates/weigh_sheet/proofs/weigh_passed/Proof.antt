@@ -6,7 +6,7 @@ use Rattle.weigh_sheet.proofs.weigh_passed.Statement.{statement}
 use Rattle.weigh_sheet.proofs.weigh_passed.Tie as tie
 
 weigh-into-requires : tie.Need-weigh-into-requires
-weigh-into-requires c κs = let z = c .before .before .before .before .before .before in (z .pre, any-rows (z .pre .0))
+weigh-into-requires c κs = let z = c .before .before .before .before .before .before in (z .pre, any-rows (z .pre .0) (z .pre .1))
 
 returns : tie.Need-returns
 returns c = let e = c .before .before .before .before .before .weigh-into .ensures in (e .0, e .1 .0)
