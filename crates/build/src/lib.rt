@@ -1,5 +1,5 @@
-// THE BUILD, a public call: from a graph sheet to its bounded sheet in the output row, with the completion table in the work area.
-// Rests on weigh_sheet and build_rows. The rows of a build are local here, once, as large as the sheet asks; the calls below lend them on.
+// THE BUILD, a public call: from a graph sheet and the handler's cost to its bounded sheet in the output row, with the completion table in the
+// work area. Rests on lowered, weigh_sheet and build_rows. The rows of a build are local here, once, as large as the sheet asks; the calls below lend them on.
 ghost use mathlib.Core.Path.{_≡_};
 ghost use mathlib.Core.Bool.{true};
 ghost use Prim.Native.Nat.{_≤_};
@@ -10,8 +10,8 @@ ghost use Rattle.build_rows.specs.Within.{Passes};
 ghost use Rattle.build.specs.Sizes.{Within, Little};
 use build_rows::build_in_rows;
 use graph_row::ROW_WORDS;
-use headers::largest;
 use headers::read_header;
+use lowered::lowered_largest;
 use tables::cell_count;
 use weigh_sheet::BLOCK_MASKS;
 use weigh_sheet::COST_MASKS;
@@ -36,12 +36,12 @@ const SOME_CELLS: usize = 2048;
 const MANY_CELLS: usize = 16384;
 
 // For a small sheet.
-fn build_small(s: &[u16], area: &mut [u8], out: &mut [u16]) -> u16
-    requires { ⌜ Passes (now s) (now area) ⌝ }
-    requires { ⌜ Within 16 64 63 256 (now s) ⌝ }
-    ensures { λ a. ⌜ a ≡ built (now (s .entry)) (now (area .entry)) (now (out .entry)) .answer ⌝ }
-    ensures { λ _. ⌜ now (area .exit) ≡ built (now (s .entry)) (now (area .entry)) (now (out .entry)) .area ⌝ }
-    ensures { λ _. ⌜ now (out .exit) ≡ built (now (s .entry)) (now (area .entry)) (now (out .entry)) .output ⌝ }
+fn build_small(s: &[u16], h: u16, area: &mut [u8], out: &mut [u16]) -> u16
+    requires { ⌜ Passes (now s) h (now area) ⌝ }
+    requires { ⌜ Within 16 64 63 256 (now s) h ⌝ }
+    ensures { λ a. ⌜ a ≡ built (now (s .entry)) h (now (area .entry)) (now (out .entry)) .answer ⌝ }
+    ensures { λ _. ⌜ now (area .exit) ≡ built (now (s .entry)) h (now (area .entry)) (now (out .entry)) .area ⌝ }
+    ensures { λ _. ⌜ now (out .exit) ≡ built (now (s .entry)) h (now (area .entry)) (now (out .entry)) .output ⌝ }
 {
     let mut row = [0u16; 1 + 3 * FEW_BLOCKS + FEW_EDGES];
     let mut nexts = [0u64; 2 * FEW_BLOCKS + 2];
@@ -50,6 +50,7 @@ fn build_small(s: &[u16], area: &mut [u8], out: &mut [u16]) -> u16
     let mut marks = [0u8; FEW_CELLS];
     build_in_rows(
         s,
+        h,
         area,
         out,
         &mut row,
@@ -61,12 +62,12 @@ fn build_small(s: &[u16], area: &mut [u8], out: &mut [u16]) -> u16
 }
 
 // For a middling sheet.
-fn build_middling(s: &[u16], area: &mut [u8], out: &mut [u16]) -> u16
-    requires { ⌜ Passes (now s) (now area) ⌝ }
-    requires { ⌜ Within 128 512 500 2048 (now s) ⌝ }
-    ensures { λ a. ⌜ a ≡ built (now (s .entry)) (now (area .entry)) (now (out .entry)) .answer ⌝ }
-    ensures { λ _. ⌜ now (area .exit) ≡ built (now (s .entry)) (now (area .entry)) (now (out .entry)) .area ⌝ }
-    ensures { λ _. ⌜ now (out .exit) ≡ built (now (s .entry)) (now (area .entry)) (now (out .entry)) .output ⌝ }
+fn build_middling(s: &[u16], h: u16, area: &mut [u8], out: &mut [u16]) -> u16
+    requires { ⌜ Passes (now s) h (now area) ⌝ }
+    requires { ⌜ Within 128 512 500 2048 (now s) h ⌝ }
+    ensures { λ a. ⌜ a ≡ built (now (s .entry)) h (now (area .entry)) (now (out .entry)) .answer ⌝ }
+    ensures { λ _. ⌜ now (area .exit) ≡ built (now (s .entry)) h (now (area .entry)) (now (out .entry)) .area ⌝ }
+    ensures { λ _. ⌜ now (out .exit) ≡ built (now (s .entry)) h (now (area .entry)) (now (out .entry)) .output ⌝ }
 {
     let mut row = [0u16; ROW_WORDS];
     let mut nexts = [0u64; BLOCK_MASKS];
@@ -75,6 +76,7 @@ fn build_middling(s: &[u16], area: &mut [u8], out: &mut [u16]) -> u16
     let mut marks = [0u8; SOME_CELLS];
     build_in_rows(
         s,
+        h,
         area,
         out,
         &mut row,
@@ -86,12 +88,12 @@ fn build_middling(s: &[u16], area: &mut [u8], out: &mut [u16]) -> u16
 }
 
 // For a sheet of any blocks and edges and many cells.
-fn build_wide(s: &[u16], area: &mut [u8], out: &mut [u16]) -> u16
-    requires { ⌜ Passes (now s) (now area) ⌝ }
-    requires { ⌜ Within 128 512 500 16384 (now s) ⌝ }
-    ensures { λ a. ⌜ a ≡ built (now (s .entry)) (now (area .entry)) (now (out .entry)) .answer ⌝ }
-    ensures { λ _. ⌜ now (area .exit) ≡ built (now (s .entry)) (now (area .entry)) (now (out .entry)) .area ⌝ }
-    ensures { λ _. ⌜ now (out .exit) ≡ built (now (s .entry)) (now (area .entry)) (now (out .entry)) .output ⌝ }
+fn build_wide(s: &[u16], h: u16, area: &mut [u8], out: &mut [u16]) -> u16
+    requires { ⌜ Passes (now s) h (now area) ⌝ }
+    requires { ⌜ Within 128 512 500 16384 (now s) h ⌝ }
+    ensures { λ a. ⌜ a ≡ built (now (s .entry)) h (now (area .entry)) (now (out .entry)) .answer ⌝ }
+    ensures { λ _. ⌜ now (area .exit) ≡ built (now (s .entry)) h (now (area .entry)) (now (out .entry)) .area ⌝ }
+    ensures { λ _. ⌜ now (out .exit) ≡ built (now (s .entry)) h (now (area .entry)) (now (out .entry)) .output ⌝ }
 {
     let mut row = [0u16; ROW_WORDS];
     let mut nexts = [0u64; BLOCK_MASKS];
@@ -100,6 +102,7 @@ fn build_wide(s: &[u16], area: &mut [u8], out: &mut [u16]) -> u16
     let mut marks = [0u8; MANY_CELLS];
     build_in_rows(
         s,
+        h,
         area,
         out,
         &mut row,
@@ -111,11 +114,11 @@ fn build_wide(s: &[u16], area: &mut [u8], out: &mut [u16]) -> u16
 }
 
 // For any sheet.
-fn build_large(s: &[u16], area: &mut [u8], out: &mut [u16]) -> u16
-    requires { ⌜ Passes (now s) (now area) ⌝ }
-    ensures { λ a. ⌜ a ≡ built (now (s .entry)) (now (area .entry)) (now (out .entry)) .answer ⌝ }
-    ensures { λ _. ⌜ now (area .exit) ≡ built (now (s .entry)) (now (area .entry)) (now (out .entry)) .area ⌝ }
-    ensures { λ _. ⌜ now (out .exit) ≡ built (now (s .entry)) (now (area .entry)) (now (out .entry)) .output ⌝ }
+fn build_large(s: &[u16], h: u16, area: &mut [u8], out: &mut [u16]) -> u16
+    requires { ⌜ Passes (now s) h (now area) ⌝ }
+    ensures { λ a. ⌜ a ≡ built (now (s .entry)) h (now (area .entry)) (now (out .entry)) .answer ⌝ }
+    ensures { λ _. ⌜ now (area .exit) ≡ built (now (s .entry)) h (now (area .entry)) (now (out .entry)) .area ⌝ }
+    ensures { λ _. ⌜ now (out .exit) ≡ built (now (s .entry)) h (now (area .entry)) (now (out .entry)) .output ⌝ }
 {
     let mut row = [0u16; ROW_WORDS];
     let mut nexts = [0u64; BLOCK_MASKS];
@@ -124,6 +127,7 @@ fn build_large(s: &[u16], area: &mut [u8], out: &mut [u16]) -> u16
     let mut marks = [0u8; MOST_CELLS];
     build_in_rows(
         s,
+        h,
         area,
         out,
         &mut row,
@@ -152,82 +156,83 @@ fn is_small(n: usize, m: usize, b: usize, cells: usize) -> bool
     cells <= FEW_CELLS
 }
 
-// The build of a little sheet that passes 1 to 8 and 21.
-fn build_passed(s: &[u16], area: &mut [u8], out: &mut [u16]) -> u16
-    requires { ⌜ Passes (now s) (now area) ⌝ }
-    requires { ⌜ Little (now s) ⌝ }
-    ensures { λ a. ⌜ a ≡ built (now (s .entry)) (now (area .entry)) (now (out .entry)) .answer ⌝ }
-    ensures { λ _. ⌜ now (area .exit) ≡ built (now (s .entry)) (now (area .entry)) (now (out .entry)) .area ⌝ }
-    ensures { λ _. ⌜ now (out .exit) ≡ built (now (s .entry)) (now (area .entry)) (now (out .entry)) .output ⌝ }
+// The build of a little sheet that passes 1 to 8, 41, 43 and 21.
+fn build_passed(s: &[u16], h: u16, area: &mut [u8], out: &mut [u16]) -> u16
+    requires { ⌜ Passes (now s) h (now area) ⌝ }
+    requires { ⌜ Little (now s) h ⌝ }
+    ensures { λ a. ⌜ a ≡ built (now (s .entry)) h (now (area .entry)) (now (out .entry)) .answer ⌝ }
+    ensures { λ _. ⌜ now (area .exit) ≡ built (now (s .entry)) h (now (area .entry)) (now (out .entry)) .area ⌝ }
+    ensures { λ _. ⌜ now (out .exit) ≡ built (now (s .entry)) h (now (area .entry)) (now (out .entry)) .output ⌝ }
 {
-    let h = read_header(s);
-    let b = largest(s);
-    let cells = cell_count(h.blocks, b);
-    if is_small(h.blocks, h.edges, b, cells) {
-        return build_small(s, area, out);
+    let x = read_header(s);
+    let b = lowered_largest(s, h);
+    let cells = cell_count(x.blocks, b);
+    if is_small(x.blocks, x.edges, b, cells) {
+        return build_small(s, h, area, out);
     }
-    build_middling(s, area, out)
+    build_middling(s, h, area, out)
 }
 
 // The build of a row that is little, or too short for a header.
-fn build_little(s: &[u16], area: &mut [u8], out: &mut [u16]) -> u16
-    requires { ⌜ (leastWords ≤ length (now s) → Little (now s)) ⌝ }
-    ensures { λ r. ⌜ r ≡ built (now (s .entry)) (now (area .entry)) (now (out .entry)) .answer ⌝ }
-    ensures { λ _. ⌜ now (area .exit) ≡ built (now (s .entry)) (now (area .entry)) (now (out .entry)) .area ⌝ }
-    ensures { λ _. ⌜ now (out .exit) ≡ built (now (s .entry)) (now (area .entry)) (now (out .entry)) .output ⌝ }
+fn build_little(s: &[u16], h: u16, area: &mut [u8], out: &mut [u16]) -> u16
+    requires { ⌜ (leastWords ≤ length (now s) → Little (now s) h) ⌝ }
+    ensures { λ r. ⌜ r ≡ built (now (s .entry)) h (now (area .entry)) (now (out .entry)) .answer ⌝ }
+    ensures { λ _. ⌜ now (area .exit) ≡ built (now (s .entry)) h (now (area .entry)) (now (out .entry)) .area ⌝ }
+    ensures { λ _. ⌜ now (out .exit) ≡ built (now (s .entry)) h (now (area .entry)) (now (out .entry)) .output ⌝ }
 {
-    let a = front(s, area);
+    let a = front(s, h, area);
     if a != 0 {
         return a;
     }
-    build_passed(s, area, out)
+    build_passed(s, h, area, out)
 }
 
-// The build of any sheet that passes 1 to 8 and 21.
-fn build_rest(s: &[u16], area: &mut [u8], out: &mut [u16]) -> u16
-    requires { ⌜ Passes (now s) (now area) ⌝ }
-    ensures { λ a. ⌜ a ≡ built (now (s .entry)) (now (area .entry)) (now (out .entry)) .answer ⌝ }
-    ensures { λ _. ⌜ now (area .exit) ≡ built (now (s .entry)) (now (area .entry)) (now (out .entry)) .area ⌝ }
-    ensures { λ _. ⌜ now (out .exit) ≡ built (now (s .entry)) (now (area .entry)) (now (out .entry)) .output ⌝ }
+// The build of any sheet that passes 1 to 8, 41, 43 and 21.
+fn build_rest(s: &[u16], h: u16, area: &mut [u8], out: &mut [u16]) -> u16
+    requires { ⌜ Passes (now s) h (now area) ⌝ }
+    ensures { λ a. ⌜ a ≡ built (now (s .entry)) h (now (area .entry)) (now (out .entry)) .answer ⌝ }
+    ensures { λ _. ⌜ now (area .exit) ≡ built (now (s .entry)) h (now (area .entry)) (now (out .entry)) .area ⌝ }
+    ensures { λ _. ⌜ now (out .exit) ≡ built (now (s .entry)) h (now (area .entry)) (now (out .entry)) .output ⌝ }
 {
-    let h = read_header(s);
-    let b = largest(s);
-    let cells = cell_count(h.blocks, b);
+    let x = read_header(s);
+    let b = lowered_largest(s, h);
+    let cells = cell_count(x.blocks, b);
     if cells <= MANY_CELLS {
-        return build_wide(s, area, out);
+        return build_wide(s, h, area, out);
     }
-    build_large(s, area, out)
+    build_large(s, h, area, out)
 }
 
 // The build of any row.
-fn build_any(s: &[u16], area: &mut [u8], out: &mut [u16]) -> u16
-    ensures { λ r. ⌜ r ≡ built (now (s .entry)) (now (area .entry)) (now (out .entry)) .answer ⌝ }
-    ensures { λ _. ⌜ now (area .exit) ≡ built (now (s .entry)) (now (area .entry)) (now (out .entry)) .area ⌝ }
-    ensures { λ _. ⌜ now (out .exit) ≡ built (now (s .entry)) (now (area .entry)) (now (out .entry)) .output ⌝ }
+fn build_any(s: &[u16], h: u16, area: &mut [u8], out: &mut [u16]) -> u16
+    ensures { λ r. ⌜ r ≡ built (now (s .entry)) h (now (area .entry)) (now (out .entry)) .answer ⌝ }
+    ensures { λ _. ⌜ now (area .exit) ≡ built (now (s .entry)) h (now (area .entry)) (now (out .entry)) .area ⌝ }
+    ensures { λ _. ⌜ now (out .exit) ≡ built (now (s .entry)) h (now (area .entry)) (now (out .entry)) .output ⌝ }
 {
-    let a = front(s, area);
+    let a = front(s, h, area);
     if a != 0 {
         return a;
     }
-    build_rest(s, area, out)
+    build_rest(s, h, area, out)
 }
 
-// 1 to 8, 21, 9, 10, 22 in this order, else 0 and the bounded sheet in the first words of the output row; in rows as large as it asks.
-pub fn build(s: &[u16], area: &mut [u8], out: &mut [u16]) -> u16
-    ensures { λ r. ⌜ r ≡ built (now (s .entry)) (now (area .entry)) (now (out .entry)) .answer ⌝ }
-    ensures { λ _. ⌜ now (area .exit) ≡ built (now (s .entry)) (now (area .entry)) (now (out .entry)) .area ⌝ }
-    ensures { λ _. ⌜ now (out .exit) ≡ built (now (s .entry)) (now (area .entry)) (now (out .entry)) .output ⌝ }
+// 1 to 4, 41, 43, 5 to 8, 21, 9, 10, 22 in this order, else 0 and the bounded sheet in the first words of the output row; in rows as large as it
+// asks. h is the handler's cost.
+pub fn build(s: &[u16], h: u16, area: &mut [u8], out: &mut [u16]) -> u16
+    ensures { λ r. ⌜ r ≡ built (now (s .entry)) h (now (area .entry)) (now (out .entry)) .answer ⌝ }
+    ensures { λ _. ⌜ now (area .exit) ≡ built (now (s .entry)) h (now (area .entry)) (now (out .entry)) .area ⌝ }
+    ensures { λ _. ⌜ now (out .exit) ≡ built (now (s .entry)) h (now (area .entry)) (now (out .entry)) .output ⌝ }
 {
     if s.len() < LEAST_WORDS {
-        return build_little(s, area, out);
+        return build_little(s, h, area, out);
     }
-    let h = read_header(s);
-    if MOST_BLOCKS < h.blocks {
-        return build_any(s, area, out);
+    let x = read_header(s);
+    if MOST_BLOCKS < x.blocks {
+        return build_any(s, h, area, out);
     }
-    let b = largest(s);
-    if SOME_CELLS < h.blocks * (b + 1) {
-        return build_any(s, area, out);
+    let b = lowered_largest(s, h);
+    if SOME_CELLS < x.blocks * (b + 1) {
+        return build_any(s, h, area, out);
     }
-    build_little(s, area, out)
+    build_little(s, h, area, out)
 }

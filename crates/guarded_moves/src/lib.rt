@@ -1,12 +1,12 @@
-// A public call: a guarded move on a graph sheet, with the walk by value.
-// Rests on weigh_sheet, headers, graph_row, look, walk; the promise is calls Moves.
+// A public call: a guarded move on a graph sheet with the handler's cost, with the walk by value.
+// Rests on weigh_sheet, headers, lowered, graph_row, look, walk; the promise is calls Moves.
 ghost use mathlib.Core.Path.{_≡_};
 ghost use Prim.Native.Nat.{_≤_};
 ghost use lib.ListN.{length};
 ghost use Rattle.theory.specs.Machines.{reply};
 ghost use Rattle.theory.specs.Walks.{InShape, monitor};
 ghost use Rattle.formats.specs.Limits.{mostBudget};
-ghost use Rattle.formats.specs.GraphSheet.{sheetRefusal};
+ghost use Rattle.formats.specs.GraphSheet.{handledRefusal};
 ghost use Rattle.calls.specs.SheetGraph.{task};
 ghost use Rattle.calls.specs.Area.{Table};
 ghost use Rattle.calls.specs.Weigh.{taskArea};
@@ -18,10 +18,10 @@ use graph_row::blocks_in;
 use graph_row::cost_in;
 use graph_row::degree_in;
 use graph_row::start_in;
-use headers::budget;
-use headers::largest;
 use headers::read_budgets;
 use look::look_up;
+use lowered::lowered_budget;
+use lowered::lowered_largest;
 use walk::Moved;
 use walk::Walk;
 use walk::divert;
@@ -84,21 +84,22 @@ fn monitor_reply(row: &[u16], area: &[u8], l: usize, b: usize, w: Walk, choice: 
     }
 }
 
-// A move on a sheet that passes 1 to 8, with area enough: it is decoded and weighed into the area, 9, the budget's number and the walk are
-// checked, and the monitor replies.
-fn guard(s: &[u16], area: &mut [u8], w: Walk, choice: u16) -> Moved
-    requires { ⌜ (sheetRefusal (now s) ≡ 0) × (taskArea (task (now s)) ≤ length (now area)) ⌝ }
+// A move on a sheet that passes 1 to 8, 41 and 43, with area enough: it is decoded and weighed into the area, 9, the budget's number and the
+// walk are checked, and the monitor replies. The budgets are lowered by the handler's cost h.
+fn guard(s: &[u16], h: u16, area: &mut [u8], w: Walk, choice: u16) -> Moved
+    requires { ⌜ (handledRefusal (now s) h ≡ 0) × (taskArea (task (now s) h) ≤ length (now area)) ⌝ }
     ensures { λ r. ⌜ r .answer
-        ≡ guardedMove (now (s .entry)) (walkOf w) (record { choice = choice; area = now (area .entry) }) .answer ⌝ }
+        ≡ guardedMove (now (s .entry)) h (walkOf w) (record { choice = choice; area = now (area .entry) }) .answer ⌝ }
     ensures { λ r. ⌜ walkOf (r .walk)
-        ≡ guardedMove (now (s .entry)) (walkOf w) (record { choice = choice; area = now (area .entry) }) .walk ⌝ }
+        ≡ guardedMove (now (s .entry)) h (walkOf w) (record { choice = choice; area = now (area .entry) }) .walk ⌝ }
     ensures { λ _. ⌜ now (area .exit)
-        ≡ guardedMove (now (s .entry)) (walkOf w) (record { choice = choice; area = now (area .entry) }) .area ⌝ }
+        ≡ guardedMove (now (s .entry)) h (walkOf w) (record { choice = choice; area = now (area .entry) }) .area ⌝ }
 {
+    let l = lowered_largest(s, h);
     let mut row = [0u16; ROW_WORDS];
     let mut nexts = [0u64; BLOCK_MASKS];
     let mut has = [0u64; COST_MASKS];
-    let a = weigh_into(s, &mut row, &mut nexts, &mut has, area);
+    let a = weigh_into(s, &mut row, &mut nexts, &mut has, area, l);
     if a != 0 {
         return Moved { answer: a, walk: w };
     }
@@ -111,29 +112,28 @@ fn guard(s: &[u16], area: &mut [u8], w: Walk, choice: u16) -> Moved
         };
     }
     let n = blocks_in(&row);
-    let b = budget(s, k);
+    let b = lowered_budget(s, h, k);
     if out_of_shape(n, Walk::EXIT_PLACE, b, w) {
         return Moved {
             answer: OUT_OF_SHAPE,
             walk: w,
         };
     }
-    let l = largest(s);
     monitor_reply(&row, area, l, b, w, choice as usize)
 }
 
 // A guarded move: the sheet and the area's length are checked, then the rest.
-pub fn guarded_move(s: &[u16], area: &mut [u8], w: Walk, choice: u16) -> Moved
+pub fn guarded_move(s: &[u16], h: u16, area: &mut [u8], w: Walk, choice: u16) -> Moved
     ensures { λ r. ⌜ r .answer
-        ≡ guardedMove (now (s .entry)) (walkOf w) (record { choice = choice; area = now (area .entry) }) .answer ⌝ }
+        ≡ guardedMove (now (s .entry)) h (walkOf w) (record { choice = choice; area = now (area .entry) }) .answer ⌝ }
     ensures { λ r. ⌜ walkOf (r .walk)
-        ≡ guardedMove (now (s .entry)) (walkOf w) (record { choice = choice; area = now (area .entry) }) .walk ⌝ }
+        ≡ guardedMove (now (s .entry)) h (walkOf w) (record { choice = choice; area = now (area .entry) }) .walk ⌝ }
     ensures { λ _. ⌜ now (area .exit)
-        ≡ guardedMove (now (s .entry)) (walkOf w) (record { choice = choice; area = now (area .entry) }) .area ⌝ }
+        ≡ guardedMove (now (s .entry)) h (walkOf w) (record { choice = choice; area = now (area .entry) }) .area ⌝ }
 {
-    let a = front(s, area);
+    let a = front(s, h, area);
     if a != 0 {
         return Moved { answer: a, walk: w };
     }
-    guard(s, area, w, choice)
+    guard(s, h, area, w, choice)
 }

@@ -1,17 +1,18 @@
-// A public call: the start of a walk on a graph sheet with a chosen budget, with the walk by value.
-// Rests on weigh_sheet, headers, look, walk; the promise is calls Starts.
+// A public call: the start of a walk on a graph sheet with a chosen budget and the handler's cost, with the walk by value.
+// Rests on weigh_sheet, headers, lowered, look, walk; the promise is calls Starts.
 ghost use mathlib.Core.Path.{_≡_};
 ghost use Prim.Native.Nat.{_≤_};
 ghost use lib.ListN.{length};
-ghost use Rattle.formats.specs.GraphSheet.{sheetRefusal};
+ghost use Rattle.formats.specs.GraphSheet.{handledRefusal};
 ghost use Rattle.calls.specs.SheetGraph.{task};
 ghost use Rattle.calls.specs.Weigh.{taskArea};
 ghost use Rattle.calls.specs.Starts.{guardedStart};
 ghost use Rattle.walk.specs.Walks.{walkOf};
 use graph_row::ROW_WORDS;
-use headers::largest;
 use headers::read_budgets;
 use look::look_up;
+use lowered::lowered_budget;
+use lowered::lowered_largest;
 use walk::Moved;
 use walk::Walk;
 use walk::set_out;
@@ -28,21 +29,22 @@ const NO_BUDGET: u16 = 33;
 // A walk sets out from block 1.
 const START_BLOCK: usize = 1;
 
-// A start on a sheet that passes 1 to 8, with area enough: it is decoded and weighed into the area, 9, the budget's number is checked, and
-// block 1 is looked up at the budget. The area is laid out for the largest one.
-fn begin(s: &[u16], area: &mut [u8], w: Walk, budget: u16) -> Moved
-    requires { ⌜ (sheetRefusal (now s) ≡ 0) × (taskArea (task (now s)) ≤ length (now area)) ⌝ }
+// A start on a sheet that passes 1 to 8, 41 and 43, with area enough: it is decoded and weighed into the area, 9, the budget's number is
+// checked, and block 1 is looked up at the budget. The budgets are lowered by the handler's cost h, and the area is laid out for the largest one.
+fn begin(s: &[u16], h: u16, area: &mut [u8], w: Walk, budget: u16) -> Moved
+    requires { ⌜ (handledRefusal (now s) h ≡ 0) × (taskArea (task (now s) h) ≤ length (now area)) ⌝ }
     ensures { λ r. ⌜ r .answer
-        ≡ guardedStart (now (s .entry)) (walkOf w) (record { number = budget; area = now (area .entry) }) .answer ⌝ }
+        ≡ guardedStart (now (s .entry)) h (walkOf w) (record { number = budget; area = now (area .entry) }) .answer ⌝ }
     ensures { λ r. ⌜ walkOf (r .walk)
-        ≡ guardedStart (now (s .entry)) (walkOf w) (record { number = budget; area = now (area .entry) }) .walk ⌝ }
+        ≡ guardedStart (now (s .entry)) h (walkOf w) (record { number = budget; area = now (area .entry) }) .walk ⌝ }
     ensures { λ _. ⌜ now (area .exit)
-        ≡ guardedStart (now (s .entry)) (walkOf w) (record { number = budget; area = now (area .entry) }) .area ⌝ }
+        ≡ guardedStart (now (s .entry)) h (walkOf w) (record { number = budget; area = now (area .entry) }) .area ⌝ }
 {
+    let l = lowered_largest(s, h);
     let mut row = [0u16; ROW_WORDS];
     let mut nexts = [0u64; BLOCK_MASKS];
     let mut has = [0u64; COST_MASKS];
-    let a = weigh_into(s, &mut row, &mut nexts, &mut has, area);
+    let a = weigh_into(s, &mut row, &mut nexts, &mut has, area, l);
     if a != 0 {
         return Moved { answer: a, walk: w };
     }
@@ -54,8 +56,7 @@ fn begin(s: &[u16], area: &mut [u8], w: Walk, budget: u16) -> Moved
             walk: w,
         };
     }
-    let b = headers::budget(s, k);
-    let l = largest(s);
+    let b = lowered_budget(s, h, k);
     let fitting = look_up(area, l, START_BLOCK, b);
     if fitting.low == 0 {
         let after = stop(budget);
@@ -72,17 +73,17 @@ fn begin(s: &[u16], area: &mut [u8], w: Walk, budget: u16) -> Moved
 }
 
 // A guarded start: the sheet and the area's length are checked, then the rest. The walk w is kept under a refusal.
-pub fn start_guarded(s: &[u16], area: &mut [u8], w: Walk, budget: u16) -> Moved
+pub fn start_guarded(s: &[u16], h: u16, area: &mut [u8], w: Walk, budget: u16) -> Moved
     ensures { λ r. ⌜ r .answer
-        ≡ guardedStart (now (s .entry)) (walkOf w) (record { number = budget; area = now (area .entry) }) .answer ⌝ }
+        ≡ guardedStart (now (s .entry)) h (walkOf w) (record { number = budget; area = now (area .entry) }) .answer ⌝ }
     ensures { λ r. ⌜ walkOf (r .walk)
-        ≡ guardedStart (now (s .entry)) (walkOf w) (record { number = budget; area = now (area .entry) }) .walk ⌝ }
+        ≡ guardedStart (now (s .entry)) h (walkOf w) (record { number = budget; area = now (area .entry) }) .walk ⌝ }
     ensures { λ _. ⌜ now (area .exit)
-        ≡ guardedStart (now (s .entry)) (walkOf w) (record { number = budget; area = now (area .entry) }) .area ⌝ }
+        ≡ guardedStart (now (s .entry)) h (walkOf w) (record { number = budget; area = now (area .entry) }) .area ⌝ }
 {
-    let a = front(s, area);
+    let a = front(s, h, area);
     if a != 0 {
         return Moved { answer: a, walk: w };
     }
-    begin(s, area, w, budget)
+    begin(s, h, area, w, budget)
 }

@@ -23,16 +23,16 @@ read-header-requires c κs = omega (arith, c .if1 .left)
 returns-2 : tie.Need-returns-2
 returns-2 c = c .before .before .before .before .build-any .ensures
 
-largest-requires : tie.Need-largest-requires
-largest-requires c κs = omega (arith, c .before .before .before .if1 .left)
+lowered-largest-requires : tie.Need-lowered-largest-requires
+lowered-largest-requires c κs = omega (arith, c .before .before .before .if1 .left)
 
 mul-if3 : tie.Need-mul-if3
 mul-if3 c =
     let n = c .before .before .before .before .read-header .result .blocks in
-    let b = c .before .largest .result in
+    let b = c .before .lowered-largest .result in
     let k : n * (b + 1) ≤ 128 * 65536
     = mul-le-mul {n₁ = n} {m₁ = b + 1} {n₂ = 128} {m₂ = 65536} (omega (arith, c .before .before .if2 .left))
-    (omega (arith, c .before .largest .ensures .1)) in
+    (omega (arith, c .before .lowered-largest .ensures .1)) in
     omega (arith, k)
 
 returns-3 : tie.Need-returns-3
@@ -42,10 +42,10 @@ build-little-requires-2 : tie.Need-build-little-requires-2
 unfolding cellCount
 build-little-requires-2 c κs _ =
     let n = c .before .before .before .before .before .before .before .read-header .result .blocks in
-    let b = c .before .before .before .before .largest .result in
+    let b = c .before .before .before .before .lowered-largest .result in
     let s = ap (λ (x : ℕ). n * x) (add-one b) in
     let r = ap (λ (h : Header). h .blocks) (c .before .before .before .before .before .before .before .read-header .ensures .0) in
-    let q = ap₂ cellCount r (c .before .before .before .before .largest .ensures .0) in
+    let q = ap₂ cellCount r (c .before .before .before .before .lowered-largest .ensures .0) in
     omega (arith, q, s, c .before .before .if3 .left)
 
 returns-4 : tie.Need-returns-4
@@ -55,5 +55,5 @@ pub build-spec : {M : Type 1} → statement M
 build-spec =
     tie.close
     (tie.spec build-little-requires (λ c. search needs) (λ c. search needs) returns read-header-requires (λ c κs. search needs)
-    (λ c. search needs) (λ c. search needs) returns-2 largest-requires (λ c. search needs) mul-if3 (λ c κs. search needs)
+    (λ c. search needs) (λ c. search needs) returns-2 lowered-largest-requires (λ c. search needs) mul-if3 (λ c κs. search needs)
     (λ c. search needs) (λ c. search needs) returns-3 build-little-requires-2 (λ c. search needs) (λ c. search needs) returns-4)

@@ -10,7 +10,7 @@ use Rattle.build.proofs.build_any.Tie as tie
 returns : tie.Need-returns
 returns c =
     let z = c .before .before .before .before .before .before in
-    front-refused (z .args .s .now) (z .args .area .now) (z .args .out .now) (c .before .front .ensures) (c .if1 .taken)
+    front-refused (z .args .s .now) (z .args .h) (z .args .area .now) (z .args .out .now) (c .before .front .ensures) (c .if1 .taken)
 
 build-rest-requires : tie.Need-build-rest-requires
 build-rest-requires c κs =

@@ -1,38 +1,38 @@
 -- The header is read for the sizes.
--- Rests on formats Accepted, Local.
+-- Rests on formats Handler, Local.
 use borrow.Author.Needs.{needs}
 use mathlib.Core.Path.{ap}
 use native.Mathlib.Omega.{arith}
 use Rattle.formats.specs.GraphSheet.{Header}
-use Rattle.formats.proofs.Accepted.{accepted}
+use Rattle.formats.proofs.Handler.{accepted-with}
 use Rattle.build.proofs.Local.{fewer, cells-are}
 use Rattle.build.proofs.build_passed.Statement.{statement}
 use Rattle.build.proofs.build_passed.Tie as tie
 
 read-header-requires : tie.Need-read-header-requires
-read-header-requires c κs = accepted _ (c .before .before .before .pre .0 .ok) .long
+read-header-requires c κs = accepted-with _ _ (c .before .before .before .pre .0 .ok) .sheet .long
 
-largest-requires : tie.Need-largest-requires
-largest-requires c κs = accepted _ (c .before .before .before .before .pre .0 .ok) .long
+lowered-largest-requires : tie.Need-lowered-largest-requires
+lowered-largest-requires c κs = accepted-with _ _ (c .before .before .before .before .pre .0 .ok) .sheet .long
 
 cell-count-requires : tie.Need-cell-count-requires
 cell-count-requires c κs =
-    let A = accepted _ (c .before .before .before .before .before .pre .0 .ok) in
+    let A = accepted-with _ _ (c .before .before .before .before .before .pre .0 .ok) in
     let n = ap (λ (h : Header). h .blocks) (c .before .read-header .ensures .0) in
-    (omega (arith, n, A .sound .form .blocks), omega (arith, A .budget, c .largest .ensures .0))
+    (omega (arith, n, A .sheet .sound .form .blocks), omega (arith, A .budget, c .lowered-largest .ensures .0))
 
 build-small-requires : tie.Need-build-small-requires
 build-small-requires c κs =
     let z = c .before .before .before .before .before .before .before .before .before .before in
     let h = c .before .before .before .before .before .before .read-header .ensures .0 in
-    let b = c .before .before .before .before .before .largest .ensures .0 in
+    let b = c .before .before .before .before .before .lowered-largest .ensures .0 in
     let k = c .before .before .before .is-small .ensures (c .before .before .if1 .taken) in (
       z .pre .0,
       record {
         blocks = omega (arith, k .0, ap (λ (h : Header). h .blocks) h);
         edges = omega (arith, k .1, ap (λ (h : Header). h .edges) h);
         budget = omega (arith, k .2, b);
-        cells = omega (arith, k .3, cells-are (z .args .s .now) h b (c .before .before .before .before .cell-count .ensures .0));
+        cells = omega (arith, k .3, cells-are (z .args .s .now) (z .args .h) h b (c .before .before .before .before .cell-count .ensures .0));
       },
     )
 
@@ -50,7 +50,7 @@ build-passed-spec =
     tie.close
     (tie.spec
     read-header-requires
-    largest-requires
+    lowered-largest-requires
     cell-count-requires
     (λ c κs. search needs)
     build-small-requires
