@@ -9,8 +9,7 @@ use lib.ListN.{length}
 use Rattle.base.specs.Lists.{any, member}
 use Rattle.base.specs.Checks.{refused, over, numbersOf, numbersBefore}
 use Rattle.formats.specs.Limits.{mostCells}
-use Rattle.formats.specs.Versions.{largestIn}
-use Rattle.formats.specs.GraphSheet.{header, sheetOrder}
+use Rattle.formats.specs.GraphSheet.{header, handledOrder}
 use Rattle.formats.specs.Report.{Figures, refusedAs}
 use Rattle.calls.specs.SheetGraph.{graph, task}
 use Rattle.calls.specs.Area.{filled, Table}
@@ -28,18 +27,18 @@ use Rattle.sheet_figures.specs.declared.Reported.{Reported}
 use Rattle.sheet_figures.specs.Says.{Costs, Says}
 
 late : beforeWeighing 0 ≡ false
-unfolding any member over numbersOf numbersBefore sheetOrder frontOrder weighOrder beforeWeighing
+unfolding any member over numbersOf numbersBefore handledOrder frontOrder weighOrder beforeWeighing
 late = refl
 
 -- THE AREA that a build leaves under 0 stands for the sheet's completion costs
 module _ (w area out : List ℕ) (wide : mostCells ≤ length area) (long : mostWords ≤ length out) where
-  pub costs-left : {after : List ℕ} → after ≡ built w area out .area → built w area out .answer ≡ 0 → Costs w after
+  pub costs-left : {after : List ℕ} → after ≡ built w 0 area out .area → built w 0 area out .answer ≡ 0 → Costs w after
   unfolding build taskArea
   costs-left {after} q e =
       let n = header w .blocks in
-      let b = largestIn w in
+      let b = task w 0 .largest in
       let room = area-fits w area out wide long (buildable _ e .ok) in
-      let f : filled (graph w) n b area ≡ after = late-area w area 0 late ∙ ap (λ (a : ℕ). areaAfter (task w) a area) (sym e) ∙ sym q in
+      let f : filled (graph w) n b area ≡ after = late-area w 0 area 0 late ∙ ap (λ (a : ℕ). areaAfter (task w 0) a area) (sym e) ∙ sym q in
       record {
         room = omega (arith, ap length f, filled-length (graph w) n b area room);
         table = subst (Table (graph w) n b) f (filled-table (graph w) n b area room);

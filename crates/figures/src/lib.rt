@@ -22,7 +22,7 @@ use sheet_figures::report_cut;
 use sheet_figures::report_refused;
 use words::MOST_CELLS;
 
-// What is said of a graph sheet, in rows that are lent.
+// What is said of a graph sheet, in rows that are lent; a report takes the handler's cost as 0.
 fn report_in_rows(
     words: &[u16],
     area: &mut [u8],
@@ -37,7 +37,7 @@ fn report_in_rows(
     requires { ⌜ sheetRoom ≤ length (now text) ⌝ }
     ensures { λ r. ⌜ Says (figures (some (now (words .entry)))) place r (now (marks .exit)) (now (text .entry)) (now (text .exit)) × Small r ⌝ }
 {
-    let a = build(words, area, out);
+    let a = build(words, 0, area, out);
     if a != 0 {
         return report_refused(a as usize, place, marks, text);
     }

@@ -21,5 +21,5 @@ module _ {A : Type 0} (f : List ℕ → A)
   pub front-same : (fs : List ℕ) → ((i : ℕ) → getD (take longerFile fs) i 0 < 256) → f (wordsOf (take longerFile fs)) ≡ f (wordsOf fs)
   unfolding sheetOrder listingOrder
   front-same =
-      first-words badLength (budgetOrder ++ costOrder ++ edgeOrder ++ ((9, λ w. nothingFits (task w)) ∷ (10, λ w. tooLarge (task w)) ∷ []))
+      first-words badLength (budgetOrder ++ costOrder ++ edgeOrder ++ ((9, λ w. nothingFits (task w 0)) ∷ (10, λ w. tooLarge (task w 0)) ∷ []))
       longerSheet (omega arith) graph-longer f same

@@ -27,9 +27,9 @@ faithful : Faithful onWords
 unfolding guardedOutset boundedOutset guardedStep boundedStep guardedStart boundedStart guardedReply boundedMove moved
 faithful = record {
   start = walk-back startingWalk;
-  guarded-start = λ w row i. same-step row _ _;
+  guarded-start = λ w h row i. same-step row _ _;
   bounded-start = λ t row k. same-step row _ _;
-  guarded = λ w row m. same-step row _ _;
+  guarded = λ w h row m. same-step row _ _;
   bounded = λ t row k. same-step row _ _;
 }
 

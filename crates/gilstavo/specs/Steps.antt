@@ -13,14 +13,14 @@ use Rattle.walk_words.specs.WalkWords.{walkIn, walkWords}
 unfoldable pub inWords : List ℕ → Reply Budgeted → Reply (List ℕ)
 inWords row r = record { answer = r .answer; after = lentAfter (r .answer) row (walkWords (r .after)) }
 
-unfoldable pub guardedOutset : List ℕ → List ℕ → Outset → Reply (List ℕ)
-guardedOutset w row i = inWords row (startReply w (walkIn row) i)
+unfoldable pub guardedOutset : List ℕ → ℕ → List ℕ → Outset → Reply (List ℕ)
+guardedOutset w h row i = inWords row (startReply w h (walkIn row) i)
 
 unfoldable pub boundedOutset : List ℕ → List ℕ → ℕ → Reply (List ℕ)
 boundedOutset t row k = inWords row (boundedStart t (walkIn row) k)
 
-unfoldable pub guardedStep : List ℕ → List ℕ → Move → Reply (List ℕ)
-guardedStep w row m = inWords row (guardedReply w (walkIn row) m)
+unfoldable pub guardedStep : List ℕ → ℕ → List ℕ → Move → Reply (List ℕ)
+guardedStep w h row m = inWords row (guardedReply w h (walkIn row) m)
 
 unfoldable pub boundedStep : List ℕ → List ℕ → ℕ → Reply (List ℕ)
 boundedStep t row k = inWords row (boundedMove t (walkIn row) k)

@@ -1,4 +1,5 @@
-// The public calls on numbers and slices, for C and Rust: a slice crosses as a pointer and a length, a walk as a row of four words.
+// The public calls on numbers and slices, for C and Rust: a slice crosses as a pointer and a length, a walk as a row of four
+// words; `handler` is the handler's cost.
 // Rests on graph_check, convert_operations, successors, weigh_sheet, build, bounded_check, reader, walk_words, both starts and both moves; the
 // promises are theirs, and Steps for walks.
 ghost use mathlib.Core.Path.{_≡_};
@@ -28,7 +29,7 @@ use walk_words::put_walk;
 use walk_words::walk_of;
 use weigh_sheet::weigh_sheet;
 
-// 1 to 8, else 0.
+// 1 to 4, 41, 5 to 8, else 0.
 #[no_mangle]
 pub extern "C" fn gilstavo_check_graph(sheet: &[u16]) -> u16
     ensures { λ r. ⌜ r ≡ sheetRefusal (now (sheet .entry)) ⌝ }
@@ -45,7 +46,7 @@ pub extern "C" fn gilstavo_convert_operations(sheet: &[u16], output: &mut [u16])
     convert_operations(sheet, output)
 }
 
-// 1 to 8, 33, else 0; the number of successors of a block.
+// 1 to 4, 41, 5 to 8, 33, else 0; the number of successors of a block.
 #[no_mangle]
 pub extern "C" fn gilstavo_count_successors(sheet: &[u16], block: u16, count: &mut u16) -> u16
     ensures { λ r. ⌜ r ≡ countSuccessors (now (sheet .entry)) block .answer ⌝ }
@@ -59,23 +60,28 @@ pub extern "C" fn gilstavo_count_successors(sheet: &[u16], block: u16, count: &m
     0
 }
 
-// 1 to 8, 21, 9, else 0; the completion table in the work area.
+// 1 to 4, 41, 43, 5 to 8, 21, 9, else 0; the completion table in the work area.
 #[no_mangle]
-pub extern "C" fn gilstavo_weigh(sheet: &[u16], area: &mut [u8]) -> u16
-    ensures { λ r. ⌜ r ≡ weighed (record { sheet = now (sheet .entry); area = now (area .entry) }) .answer ⌝ }
-    ensures { λ _. ⌜ now (area .exit) ≡ weighed (record { sheet = now (sheet .entry); area = now (area .entry) }) .area ⌝ }
+pub extern "C" fn gilstavo_weigh(sheet: &[u16], handler: u16, area: &mut [u8]) -> u16
+    ensures { λ r. ⌜ r ≡ weighed (record { sheet = now (sheet .entry); handler = handler; area = now (area .entry) }) .answer ⌝ }
+    ensures { λ _. ⌜ now (area .exit) ≡ weighed (record { sheet = now (sheet .entry); handler = handler; area = now (area .entry) }) .area ⌝ }
 {
-    weigh_sheet(sheet, area)
+    weigh_sheet(sheet, handler, area)
 }
 
-// 1 to 8, 21, 9, 10, 22, else 0; the bounded sheet in the first words of the output row.
+// 1 to 4, 41, 43, 5 to 8, 21, 9, 10, 22, else 0; the bounded sheet in the first words of the output row.
 #[no_mangle]
-pub extern "C" fn gilstavo_build(sheet: &[u16], area: &mut [u8], output: &mut [u16]) -> u16
-    ensures { λ r. ⌜ r ≡ built (now (sheet .entry)) (now (area .entry)) (now (output .entry)) .answer ⌝ }
-    ensures { λ _. ⌜ now (area .exit) ≡ built (now (sheet .entry)) (now (area .entry)) (now (output .entry)) .area ⌝ }
-    ensures { λ _. ⌜ now (output .exit) ≡ built (now (sheet .entry)) (now (area .entry)) (now (output .entry)) .output ⌝ }
+pub extern "C" fn gilstavo_build(
+    sheet: &[u16],
+    handler: u16,
+    area: &mut [u8],
+    output: &mut [u16],
+) -> u16
+    ensures { λ r. ⌜ r ≡ built (now (sheet .entry)) handler (now (area .entry)) (now (output .entry)) .answer ⌝ }
+    ensures { λ _. ⌜ now (area .exit) ≡ built (now (sheet .entry)) handler (now (area .entry)) (now (output .entry)) .area ⌝ }
+    ensures { λ _. ⌜ now (output .exit) ≡ built (now (sheet .entry)) handler (now (area .entry)) (now (output .entry)) .output ⌝ }
 {
-    build(sheet, area, output)
+    build(sheet, handler, area, output)
 }
 
 // 11, else 0.
@@ -115,22 +121,23 @@ pub extern "C" fn gilstavo_start(walk: &mut [u16; 4])
     put_walk(walk, w);
 }
 
-// 1 to 8, 21, 9, 33, else 0; a guarded start with a budget's number of a walk that is set in place.
+// 1 to 4, 41, 43, 5 to 8, 21, 9, 33, else 0; a guarded start with a budget's number of a walk that is set in place.
 #[no_mangle]
 pub extern "C" fn gilstavo_start_guarded(
     sheet: &[u16],
+    handler: u16,
     area: &mut [u8],
     walk: &mut [u16; 4],
     budget: u16,
 ) -> u16
-    ensures { λ r. ⌜ r ≡ guardedOutset (now (sheet .entry)) (now (walk .entry)) (record { number = budget; area = now (area .entry) }) .answer ⌝ }
+    ensures { λ r. ⌜ r ≡ guardedOutset (now (sheet .entry)) handler (now (walk .entry)) (record { number = budget; area = now (area .entry) }) .answer ⌝ }
     ensures { λ _. ⌜ now (walk .exit)
-        ≡ guardedOutset (now (sheet .entry)) (now (walk .entry)) (record { number = budget; area = now (area .entry) }) .after ⌝ }
+        ≡ guardedOutset (now (sheet .entry)) handler (now (walk .entry)) (record { number = budget; area = now (area .entry) }) .after ⌝ }
     ensures { λ _. ⌜ now (area .exit)
-        ≡ guardedStart (now (sheet .entry)) (walkIn (now (walk .entry))) (record { number = budget; area = now (area .entry) }) .area ⌝ }
+        ≡ guardedStart (now (sheet .entry)) handler (walkIn (now (walk .entry))) (record { number = budget; area = now (area .entry) }) .area ⌝ }
 {
     let w = walk_of(walk);
-    let first = start_guarded(sheet, area, w, budget);
+    let first = start_guarded(sheet, handler, area, w, budget);
     if first.answer != 0 {
         return first.answer;
     }
@@ -153,22 +160,23 @@ pub extern "C" fn gilstavo_start_bounded(sheet: &[u16], walk: &mut [u16; 4], bud
     0
 }
 
-// 1 to 8, 21, 9, 33, 32, 31, else 0; a guarded move of a walk that is changed in place.
+// 1 to 4, 41, 43, 5 to 8, 21, 9, 33, 32, 31, else 0; a guarded move of a walk that is changed in place.
 #[no_mangle]
 pub extern "C" fn gilstavo_guarded_move(
     sheet: &[u16],
+    handler: u16,
     area: &mut [u8],
     walk: &mut [u16; 4],
     choice: u16,
 ) -> u16
-    ensures { λ r. ⌜ r ≡ guardedStep (now (sheet .entry)) (now (walk .entry)) (record { choice = choice; area = now (area .entry) }) .answer ⌝ }
+    ensures { λ r. ⌜ r ≡ guardedStep (now (sheet .entry)) handler (now (walk .entry)) (record { choice = choice; area = now (area .entry) }) .answer ⌝ }
     ensures { λ _. ⌜ now (walk .exit)
-        ≡ guardedStep (now (sheet .entry)) (now (walk .entry)) (record { choice = choice; area = now (area .entry) }) .after ⌝ }
+        ≡ guardedStep (now (sheet .entry)) handler (now (walk .entry)) (record { choice = choice; area = now (area .entry) }) .after ⌝ }
     ensures { λ _. ⌜ now (area .exit)
-        ≡ guardedMove (now (sheet .entry)) (walkIn (now (walk .entry))) (record { choice = choice; area = now (area .entry) }) .area ⌝ }
+        ≡ guardedMove (now (sheet .entry)) handler (walkIn (now (walk .entry))) (record { choice = choice; area = now (area .entry) }) .area ⌝ }
 {
     let w = walk_of(walk);
-    let g = guarded_move(sheet, area, w, choice);
+    let g = guarded_move(sheet, handler, area, w, choice);
     if g.answer != 0 {
         return g.answer;
     }

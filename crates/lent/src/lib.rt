@@ -11,16 +11,16 @@ use guarded_moves::guarded_move;
 use guarded_starts::start_guarded;
 use walk::Walk;
 
-// A guarded start in place.
-pub fn start_guarded_in_place(s: &[u16], area: &mut [u8], w: &mut Walk, budget: u16) -> u16
+// A guarded start in place; h is the handler's cost.
+pub fn start_guarded_in_place(s: &[u16], h: u16, area: &mut [u8], w: &mut Walk, budget: u16) -> u16
     ensures { λ r. ⌜ r
-        ≡ guardedStart (now (s .entry)) (walkOf (now (w .entry))) (record { number = budget; area = now (area .entry) }) .answer ⌝ }
+        ≡ guardedStart (now (s .entry)) h (walkOf (now (w .entry))) (record { number = budget; area = now (area .entry) }) .answer ⌝ }
     ensures { λ _. ⌜ walkOf (now (w .exit))
-        ≡ guardedStart (now (s .entry)) (walkOf (now (w .entry))) (record { number = budget; area = now (area .entry) }) .walk ⌝ }
+        ≡ guardedStart (now (s .entry)) h (walkOf (now (w .entry))) (record { number = budget; area = now (area .entry) }) .walk ⌝ }
     ensures { λ _. ⌜ now (area .exit)
-        ≡ guardedStart (now (s .entry)) (walkOf (now (w .entry))) (record { number = budget; area = now (area .entry) }) .area ⌝ }
+        ≡ guardedStart (now (s .entry)) h (walkOf (now (w .entry))) (record { number = budget; area = now (area .entry) }) .area ⌝ }
 {
-    let first = start_guarded(s, area, *w, budget);
+    let first = start_guarded(s, h, area, *w, budget);
     *w = first.walk;
     first.answer
 }
@@ -35,16 +35,16 @@ pub fn start_bounded_in_place(t: &[u16], w: &mut Walk, budget: u16) -> u16
     entered.answer
 }
 
-// A guarded move in place.
-pub fn guarded_move_in_place(s: &[u16], area: &mut [u8], w: &mut Walk, choice: u16) -> u16
+// A guarded move in place; h is the handler's cost.
+pub fn guarded_move_in_place(s: &[u16], h: u16, area: &mut [u8], w: &mut Walk, choice: u16) -> u16
     ensures { λ r. ⌜ r
-        ≡ guardedMove (now (s .entry)) (walkOf (now (w .entry))) (record { choice = choice; area = now (area .entry) }) .answer ⌝ }
+        ≡ guardedMove (now (s .entry)) h (walkOf (now (w .entry))) (record { choice = choice; area = now (area .entry) }) .answer ⌝ }
     ensures { λ _. ⌜ walkOf (now (w .exit))
-        ≡ guardedMove (now (s .entry)) (walkOf (now (w .entry))) (record { choice = choice; area = now (area .entry) }) .walk ⌝ }
+        ≡ guardedMove (now (s .entry)) h (walkOf (now (w .entry))) (record { choice = choice; area = now (area .entry) }) .walk ⌝ }
     ensures { λ _. ⌜ now (area .exit)
-        ≡ guardedMove (now (s .entry)) (walkOf (now (w .entry))) (record { choice = choice; area = now (area .entry) }) .area ⌝ }
+        ≡ guardedMove (now (s .entry)) h (walkOf (now (w .entry))) (record { choice = choice; area = now (area .entry) }) .area ⌝ }
 {
-    let g = guarded_move(s, area, *w, choice);
+    let g = guarded_move(s, h, area, *w, choice);
     *w = g.walk;
     g.answer
 }

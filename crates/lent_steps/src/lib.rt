@@ -11,17 +11,17 @@ use lent::start_guarded_in_place;
 use walk::Moved;
 use walk::Walk;
 
-// A guarded start of a walk by value.
-pub fn guarded_outset(s: &[u16], area: &mut [u8], w: Walk, budget: u16) -> Moved
+// A guarded start of a walk by value; h is the handler's cost.
+pub fn guarded_outset(s: &[u16], h: u16, area: &mut [u8], w: Walk, budget: u16) -> Moved
     ensures { λ r. ⌜ r .answer
-        ≡ guardedStart (now (s .entry)) (walkOf w) (record { number = budget; area = now (area .entry) }) .answer ⌝ }
+        ≡ guardedStart (now (s .entry)) h (walkOf w) (record { number = budget; area = now (area .entry) }) .answer ⌝ }
     ensures { λ r. ⌜ walkOf (r .walk)
-        ≡ guardedStart (now (s .entry)) (walkOf w) (record { number = budget; area = now (area .entry) }) .walk ⌝ }
+        ≡ guardedStart (now (s .entry)) h (walkOf w) (record { number = budget; area = now (area .entry) }) .walk ⌝ }
     ensures { λ _. ⌜ now (area .exit)
-        ≡ guardedStart (now (s .entry)) (walkOf w) (record { number = budget; area = now (area .entry) }) .area ⌝ }
+        ≡ guardedStart (now (s .entry)) h (walkOf w) (record { number = budget; area = now (area .entry) }) .area ⌝ }
 {
     let mut held = w;
-    let answer = start_guarded_in_place(s, area, &mut held, budget);
+    let answer = start_guarded_in_place(s, h, area, &mut held, budget);
     Moved {
         answer: answer,
         walk: held,
@@ -41,17 +41,17 @@ pub fn bounded_outset(t: &[u16], w: Walk, budget: u16) -> Moved
     }
 }
 
-// A guarded move of a walk by value.
-pub fn guarded_step(s: &[u16], area: &mut [u8], w: Walk, choice: u16) -> Moved
+// A guarded move of a walk by value; h is the handler's cost.
+pub fn guarded_step(s: &[u16], h: u16, area: &mut [u8], w: Walk, choice: u16) -> Moved
     ensures { λ r. ⌜ r .answer
-        ≡ guardedMove (now (s .entry)) (walkOf w) (record { choice = choice; area = now (area .entry) }) .answer ⌝ }
+        ≡ guardedMove (now (s .entry)) h (walkOf w) (record { choice = choice; area = now (area .entry) }) .answer ⌝ }
     ensures { λ r. ⌜ walkOf (r .walk)
-        ≡ guardedMove (now (s .entry)) (walkOf w) (record { choice = choice; area = now (area .entry) }) .walk ⌝ }
+        ≡ guardedMove (now (s .entry)) h (walkOf w) (record { choice = choice; area = now (area .entry) }) .walk ⌝ }
     ensures { λ _. ⌜ now (area .exit)
-        ≡ guardedMove (now (s .entry)) (walkOf w) (record { choice = choice; area = now (area .entry) }) .area ⌝ }
+        ≡ guardedMove (now (s .entry)) h (walkOf w) (record { choice = choice; area = now (area .entry) }) .area ⌝ }
 {
     let mut held = w;
-    let answer = guarded_move_in_place(s, area, &mut held, choice);
+    let answer = guarded_move_in_place(s, h, area, &mut held, choice);
     Moved {
         answer: answer,
         walk: held,

@@ -23,7 +23,7 @@ module _ (w : List ℕ) where
   sheet-refused zero e n = absurd (n refl)
   sheet-refused (suc a) e n = rw (e, sheetListing)
 
-  pub sheet-listed : refused listingOrder w ≡ 0 → sheetListing w ≡ listingOf (boundedSheet w)
+  pub sheet-listed : refused listingOrder w ≡ 0 → sheetListing w ≡ listingOf (boundedSheet w 0)
   unfolding sheetListing
   sheet-listed e = rw (e, sheetListing)
 

@@ -36,13 +36,13 @@ fn list_built(row: &[u16], text: &mut [u8]) -> usize
     write_listing(s, text)
 }
 
-// The listing of a graph sheet, in rows that are lent.
+// The listing of a graph sheet, in rows that are lent; a listing takes the handler's cost as 0.
 fn list_in_rows(words: &[u16], area: &mut [u8], out: &mut [u16], text: &mut [u8]) -> usize
     requires { ⌜ (mostCells ≤ length (now area)) × (mostWords ≤ length (now out)) ⌝ }
     requires { ⌜ listingRoom ≤ length (now text) ⌝ }
     ensures { λ r. ⌜ Wrote (now (text .entry)) 0 (sheetListing (now (words .entry))) (now (text .exit)) r × (r ≤ length (now (text .exit))) ⌝ }
 {
-    let a = build(words, area, out);
+    let a = build(words, 0, area, out);
     if a != 0 {
         return write_refusal(a, text);
     }

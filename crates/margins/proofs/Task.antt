@@ -10,7 +10,6 @@ use Rattle.base.specs.Copy.{Copy}
 use Rattle.base.proofs.Lists.{chosen-mem, map-numbered}
 use Rattle.theory.specs.Margins.{marginOf, marginsIn}
 use Rattle.theory.proofs.Reach.{copy-sound}
-use Rattle.formats.specs.Versions.{largestIn}
 use Rattle.formats.specs.GraphSheet.{header}
 use Rattle.formats.specs.BoundedSheet.{heading, copyAt}
 use Rattle.formats.proofs.Headings.{largest-is}
@@ -22,25 +21,25 @@ use Rattle.tables.specs.Tables.{nextIn}
 use Rattle.tables.proofs.Tables.{next-in}
 use Rattle.margins.specs.Margins.{lessLow, marginAt, marginsAt}
 
-module _ (w : List ℕ) (K : Buildable w) {area : List ℕ} (T : Table (graph w) (header w .blocks) (largestIn w) area) where
+module _ (w : List ℕ) (h : ℕ) (K : Buildable w h) {area : List ℕ} (T : Table (graph w) (header w .blocks) (task w h .largest) area) where
   abbrev t : List ℕ
-  t = boundedSheet w
+  t = boundedSheet w h
 
-  bound : heading t .largest ≡ largestIn w
-  bound = largest-is t ∙ ap lastOf (budgets-back w K)
+  bound : heading t .largest ≡ task w h .largest
+  bound = largest-is t ∙ ap lastOf (budgets-back w h K)
 
   -- that of the i-th record is that of the i-th copy
-  one : (i : ℕ) (c : Copy) → chosen (sheetCopies w) i ≡ some c → marginAt t area (heading t .largest) (heading t .records) i ≡ marginOf (task w) c
+  one : (i : ℕ) (c : Copy) → chosen (sheetCopies w h) i ≡ some c → marginAt t area (heading t .largest) (heading t .records) i ≡ marginOf (task w h) c
   unfolding copyAt sheetCopies
   one i c q =
-      let s = copy-sound (setting w K) c (chosen-mem (sheetCopies w) i c q) .1 in
+      let s = copy-sound (setting w h K) c (chosen-mem (sheetCopies w h) i c q) .1 in
       ap (λ (b : ℕ). marginAt t area b (heading t .records) i) bound
-      ∙ ap (λ (d : Copy). lessLow (d .low) (nextIn (largestIn w) area (d .block) (d .low))) (copied w K .record-is i c q)
+      ∙ ap (λ (d : Copy). lessLow (d .low) (nextIn (task w h .largest) area (d .block) (d .low))) (copied w h K .record-is i c q)
       ∙ ap (lessLow (c .low)) (next-in T (c .block) (c .low) (s .place .0) (s .place .1) (s .small))
 
-  pub margins-are : marginsAt (boundedSheet w) area ≡ marginsIn (task w)
+  pub margins-are : marginsAt (boundedSheet w h) area ≡ marginsIn (task w h)
   unfolding marginsAt marginsIn sheetCopies
   margins-are =
-      ap (λ (n : ℕ). map (marginAt t area (heading t .largest) (heading t .records)) (from 1 n)) (copied w K .copies)
-      ∙ map-numbered (marginAt t area (heading t .largest) (heading t .records)) (marginOf (task w)) 1 (sheetCopies w)
+      ap (λ (n : ℕ). map (marginAt t area (heading t .largest) (heading t .records)) (from 1 n)) (copied w h K .copies)
+      ∙ map-numbered (marginAt t area (heading t .largest) (heading t .records)) (marginOf (task w h)) 1 (sheetCopies w h)
       (λ i c q. let p : 1 + i ≡ suc i = omega arith in rw p (one (suc i) c q))

@@ -1,6 +1,6 @@
 // Gives lists of choices to three machines and prints their rows: the monitor, guarded moves on the graph sheet, bounded moves on the sheet
-// that the build filled. On sheets of the second version they set out by the starts, with each budget. Rests on build, lent_steps, reader, walk.
-// The monitor here is plain code of its own, which finds completions by itself.
+// that the build filled. On sheets of the second version they set out by the starts, with each budget; all take one handler's cost h.
+// Rests on build, lent_steps, reader, walk. The monitor here is plain code of its own, which finds completions by itself.
 use build::build;
 use lent_steps::bounded_outset;
 use lent_steps::bounded_step;
@@ -286,9 +286,22 @@ fn goes(end: End) -> bool {
     }
 }
 
+// The k-th budget less h, 0 where h is above it.
+fn lowered(s: &[u16], h: u16, k: usize) -> usize
+    requires { ⌜ k < 65536 ⌝ }
+    ensures { λ r. ⌜ r < 65536 ⌝ }
+{
+    let b = budget(s, k);
+    let c = wide(h);
+    if b < c {
+        return 0;
+    }
+    b - c
+}
+
 // The monitor sets out with the k-th budget: diverted where that is below the cheapest completion of block 1.
-fn watch(s: &[u16], completions: &[u16], k: u16) -> Walk {
-    if budget(s, wide(k)) < cost_in(completions, 1) {
+fn watch(s: &[u16], h: u16, completions: &[u16], k: u16) -> Walk {
+    if lowered(s, h, wide(k)) < cost_in(completions, 1) {
         return Walk {
             place: 1,
             count: 0,
@@ -305,7 +318,7 @@ fn watch(s: &[u16], completions: &[u16], k: u16) -> Walk {
 }
 
 // The monitor: document 01's three rules, with the cheapest completion of each block at hand.
-fn monitor(s: &[u16], completions: &[u16], w: Walk, choice: u16) -> Moved {
+fn monitor(s: &[u16], h: u16, completions: &[u16], w: Walk, choice: u16) -> Moved {
     let end = w.end;
     if !goes(end) {
         return Moved {
@@ -321,7 +334,7 @@ fn monitor(s: &[u16], completions: &[u16], w: Walk, choice: u16) -> Moved {
         };
     }
     let t = target_of(s, e);
-    let b = budget(s, wide(w.budget));
+    let b = lowered(s, h, wide(w.budget));
     let count = wide(w.count);
     if b < count + cost_in(completions, t) {
         return Moved {
@@ -450,12 +463,19 @@ fn print_starts(k: u16, guarded: u16, bounded: u16) {
 }
 
 // The three set out with the k-th budget; the answers of the two starts are printed.
-fn outset(graph: &[u16], completions: &[u16], area: &mut [u8], sheet: &[u16], k: u16) -> Machines {
+fn outset(
+    graph: &[u16],
+    h: u16,
+    completions: &[u16],
+    area: &mut [u8],
+    sheet: &[u16],
+    k: u16,
+) -> Machines {
     let w = Walk::start();
-    let g = guarded_outset(graph, area, w, k);
+    let g = guarded_outset(graph, h, area, w, k);
     let b = bounded_outset(sheet, w, k);
     print_starts(k, g.answer, b.answer);
-    let x = watch(graph, completions, k);
+    let x = watch(graph, h, completions, k);
     let y = g.walk;
     let z = b.walk;
     together(x, y, z)
@@ -464,6 +484,7 @@ fn outset(graph: &[u16], completions: &[u16], area: &mut [u8], sheet: &[u16], k:
 // One choice, the j-th of n, given to all three; nothing beyond the n-th.
 fn give(
     graph: &[u16],
+    h: u16,
     completions: &[u16],
     area: &mut [u8],
     sheet: &[u16],
@@ -477,8 +498,8 @@ fn give(
     if n <= j {
         return m;
     }
-    let a = monitor(graph, completions, m.monitor, choice);
-    let b = guarded_step(graph, area, m.guarded, choice);
+    let a = monitor(graph, h, completions, m.monitor, choice);
+    let b = guarded_step(graph, h, area, m.guarded, choice);
     let c = bounded_step(sheet, m.bounded, choice);
     let mut next = m;
     next.monitor_answers[j] = a.answer;
@@ -502,6 +523,7 @@ fn give(
 
 fn run(
     graph: &[u16],
+    h: u16,
     completions: &[u16],
     area: &mut [u8],
     sheet: &[u16],
@@ -512,7 +534,7 @@ fn run(
     let mut m = from;
     let mut j = 0;
     while j < 8 {
-        m = give(graph, completions, area, sheet, m, n, j, choices[j]);
+        m = give(graph, h, completions, area, sheet, m, n, j, choices[j]);
         j += 1;
     }
     m
@@ -521,6 +543,7 @@ fn run(
 // One list: its choices, a row for each machine, and the targets of the copy at which the bounded walk stands.
 fn print_list(
     graph: &[u16],
+    h: u16,
     completions: &[u16],
     area: &mut [u8],
     sheet: &[u16],
@@ -528,7 +551,7 @@ fn print_list(
     choices: [u16; 8],
     n: usize,
 ) {
-    let m = run(graph, completions, area, sheet, from, choices, n);
+    let m = run(graph, h, completions, area, sheet, from, choices, n);
     io::write_all(STDOUT_FILENO, b"choices");
     print_row(choices, n);
     io::write_all(STDOUT_FILENO, b"\nmonitor");
@@ -565,7 +588,7 @@ fn run_out(sheet: &[u16]) -> Walk {
 
 fn from_start(completions: &[u16], area: &mut [u8], sheet: &[u16], choices: [u16; 8], n: usize) {
     let m = begin();
-    print_list(&SHEET, completions, area, sheet, m, choices, n);
+    print_list(&SHEET, 0, completions, area, sheet, m, choices, n);
 }
 
 fn print_lists(completions: &[u16], area: &mut [u8], sheet: &[u16]) {
@@ -585,7 +608,7 @@ fn print_first() {
     let completions = cheapest(&SHEET);
     let mut area = [7u8; 80];
     let mut sheet = [0u16; 40];
-    build(&SHEET, &mut area, &mut sheet);
+    build(&SHEET, 0, &mut area, &mut sheet);
     print_lists(&completions, &mut area, &sheet);
     let last = run_out(&sheet);
     io::write_all(STDOUT_FILENO, b"first choices");
@@ -597,6 +620,7 @@ fn print_first() {
 // One list with the k-th budget.
 fn with_budget(
     graph: &[u16],
+    h: u16,
     completions: &[u16],
     area: &mut [u8],
     sheet: &[u16],
@@ -604,56 +628,81 @@ fn with_budget(
     choices: [u16; 8],
     n: usize,
 ) {
-    let m = outset(graph, completions, area, sheet, k);
-    print_list(graph, completions, area, sheet, m, choices, n);
+    let m = outset(graph, h, completions, area, sheet, k);
+    print_list(graph, h, completions, area, sheet, m, choices, n);
 }
 
 // A path of cost 8 within 5 and within 9.
 fn list_two(completions: &[u16], area: &mut [u8], sheet: &[u16]) {
     let choices = [1, 2, 1, 1, 1, 0, 0, 0];
-    with_budget(&TWO, completions, area, sheet, 1, choices, 5);
-    with_budget(&TWO, completions, area, sheet, 2, choices, 5);
+    with_budget(&TWO, 0, completions, area, sheet, 1, choices, 5);
+    with_budget(&TWO, 0, completions, area, sheet, 2, choices, 5);
 }
 
 fn print_two() {
     let completions = cheapest(&TWO);
     let mut area = [7u8; 80];
     let mut sheet = [0u16; 74];
-    build(&TWO, &mut area, &mut sheet);
+    build(&TWO, 0, &mut area, &mut sheet);
     list_two(&completions, &mut area, &sheet);
 }
 
 // Turn after turn of the loop: within 2 cycles, which divert before the first choice, and within 3, 7 and 9.
 fn list_four(completions: &[u16], area: &mut [u8], sheet: &[u16]) {
     let choices = [1, 1, 1, 2, 0, 0, 0, 0];
-    with_budget(&FOUR, completions, area, sheet, 1, choices, 4);
-    with_budget(&FOUR, completions, area, sheet, 2, choices, 4);
-    with_budget(&FOUR, completions, area, sheet, 3, choices, 4);
-    with_budget(&FOUR, completions, area, sheet, 4, choices, 4);
+    with_budget(&FOUR, 0, completions, area, sheet, 1, choices, 4);
+    with_budget(&FOUR, 0, completions, area, sheet, 2, choices, 4);
+    with_budget(&FOUR, 0, completions, area, sheet, 3, choices, 4);
+    with_budget(&FOUR, 0, completions, area, sheet, 4, choices, 4);
 }
 
 fn print_four() {
     let completions = cheapest(&FOUR);
     let mut area = [7u8; 30];
     let mut sheet = [0u16; 51];
-    build(&FOUR, &mut area, &mut sheet);
+    build(&FOUR, 0, &mut area, &mut sheet);
     list_four(&completions, &mut area, &sheet);
 }
 
 // Two turns and the exit, within 7 cycles and within 8; a third budget the sheet does not have.
 fn list_shared(completions: &[u16], area: &mut [u8], sheet: &[u16]) {
     let choices = [1, 1, 2, 1, 0, 0, 0, 0];
-    with_budget(&SHARED, completions, area, sheet, 1, choices, 4);
-    with_budget(&SHARED, completions, area, sheet, 2, choices, 4);
-    outset(&SHARED, completions, area, sheet, 3);
+    with_budget(&SHARED, 0, completions, area, sheet, 1, choices, 4);
+    with_budget(&SHARED, 0, completions, area, sheet, 2, choices, 4);
+    outset(&SHARED, 0, completions, area, sheet, 3);
 }
 
 fn print_shared() {
     let completions = cheapest(&SHARED);
     let mut area = [7u8; 27];
     let mut sheet = [0u16; 30];
-    build(&SHARED, &mut area, &mut sheet);
+    build(&SHARED, 0, &mut area, &mut sheet);
     list_shared(&completions, &mut area, &sheet);
+}
+
+// WITH A HANDLER'S COST
+
+// Two turns and the exit, which cost 6, within 7 cycles and within 8, of which the handler takes h.
+fn list_handled(h: u16, completions: &[u16], area: &mut [u8], sheet: &[u16]) {
+    let choices = [1, 1, 2, 1, 0, 0, 0, 0];
+    with_budget(&SHARED, h, completions, area, sheet, 1, choices, 4);
+    with_budget(&SHARED, h, completions, area, sheet, 2, choices, 4);
+}
+
+fn print_handled(h: u16) {
+    io::write_all(STDOUT_FILENO, b"handler");
+    number(wide(h));
+    io::write_all(STDOUT_FILENO, b"\n");
+    let completions = cheapest(&SHARED);
+    let mut area = [7u8; 27];
+    let mut sheet = [0u16; 40];
+    let answer = build(&SHARED, h, &mut area, &mut sheet);
+    io::write_all(STDOUT_FILENO, b"build");
+    number(wide(answer));
+    io::write_all(STDOUT_FILENO, b"\n");
+    if answer == 0 {
+        list_handled(h, &completions, &mut area, &sheet);
+    }
 }
 
 fn main() {
@@ -661,4 +710,10 @@ fn main() {
     print_two();
     print_four();
     print_shared();
+    // both budgets leave the two turns, the second alone, one turn, none; and more than the smallest budget
+    print_handled(1);
+    print_handled(2);
+    print_handled(4);
+    print_handled(6);
+    print_handled(8);
 }

@@ -1,5 +1,5 @@
 -- What is said of a refused and of an accepted sheet, from what the calls below answer and leave.
--- Rests on formats Report, Accepted and RuleRead, calls Unused and Built, digits Wrote and Due, margins Task, unused Named, specs Says.
+-- Rests on formats Report, Handler and RuleRead, calls Unused and Built, digits Wrote and Due, margins Task, unused Named, specs Says.
 use mathlib.Core.Path.{_≡_, refl, sym, ap, ap₂, _∙_}
 use mathlib.Core.List.{List}
 use Prim.Native.Nat.{ℕ, zero, suc, _≤_, _<_}
@@ -11,7 +11,7 @@ use Rattle.formats.specs.GraphSheet.{Header, header}
 use Rattle.formats.specs.BoundedSheet.{Heading, heading}
 use Rattle.formats.specs.Rule11.{boundedRefusal}
 use Rattle.formats.specs.Report.{unusedBlocks, refusedAs, figuresLine, refusedLine, sheetLine}
-use Rattle.formats.proofs.Accepted.{accepted}
+use Rattle.formats.proofs.Handler.{accepted-with}
 use Rattle.formats.proofs.RuleRead.{clauses, read-ruled}
 use Rattle.calls.specs.SheetGraph.{boundedSheet}
 use Rattle.calls.specs.Program.{listingOrder}
@@ -44,14 +44,14 @@ refused-small k = record { blocks = omega arith; copies = omega arith; edges = o
 -- AN ACCEPTED SHEET w, whose bounded sheet is t
 module _ (w : List ℕ) (e : refused listingOrder w ≡ 0) where
   pub sheet-long : leastWords ≤ length w
-  sheet-long = accepted w (listed w e .ok) .long
+  sheet-long = accepted-with w 0 (listed w e .ok) .sheet .long
 
   pub blocks-most : header w .blocks ≤ mostBlocks
-  blocks-most = accepted w (listed w e .ok) .sound .form .blocks .1
+  blocks-most = accepted-with w 0 (listed w e .ok) .sheet .sound .form .blocks .1
 
-  module _ {t : List ℕ} (q : t ≡ boundedSheet w) where
+  module _ {t : List ℕ} (q : t ≡ boundedSheet w 0) where
     pub rule-kept : boundedRefusal t ≡ 0
-    rule-kept = ap boundedRefusal q ∙ keeps-rule w (listed w e)
+    rule-kept = ap boundedRefusal q ∙ keeps-rule w 0 (listed w e)
 
     pub bounded-long : leastWords ≤ length t
     bounded-long = clauses t rule-kept .long
@@ -61,10 +61,10 @@ module _ (w : List ℕ) (e : refused listingOrder w ≡ 0) where
       i : g .blocks ≡ header w .blocks
       i = ap (λ (x : Header). x .blocks) a
 
-      j : h .copies ≡ heading (boundedSheet w) .copies
+      j : h .copies ≡ heading (boundedSheet w 0) .copies
       j = ap (λ (x : Heading). x .copies) b ∙ ap (λ (x : List ℕ). heading x .copies) q
 
-      k : h .edges ≡ heading (boundedSheet w) .edges
+      k : h .edges ≡ heading (boundedSheet w 0) .edges
       k = ap (λ (x : Heading). x .edges) b ∙ ap (λ (x : List ℕ). heading x .edges) q
 
       pub accepted-small : (s : ℕ) → Small (record { blocks = g .blocks; copies = h .copies; edges = h .edges; size = s })
@@ -85,7 +85,7 @@ module _ (w : List ℕ) (e : refused listingOrder w ≡ 0) where
         line =
             wrote-as (l .0)
             (ap (λ (x : List ℕ). figuresLine p (g .blocks) (heading x .copies) (heading x .edges) (marginsAt x area)) q
-            ∙ ap₂ (λ (x : ℕ) (ms : _). figuresLine p x (heading (boundedSheet w) .copies) (heading (boundedSheet w) .edges) ms) i
-            (margins-are w (listed w e) (C .table)));
+            ∙ ap₂ (λ (x : ℕ) (ms : _). figuresLine p x (heading (boundedSheet w 0) .copies) (heading (boundedSheet w 0) .edges) ms) i
+            (margins-are w 0 (listed w e) (C .table)));
         inside = l .1;
       }

@@ -58,7 +58,7 @@ pub fn report_built(
     text: &mut [u8],
 ) -> Reported
     requires { ⌜ refused listingOrder (now words) ≡ 0 ⌝ }
-    requires { ⌜ (boundedLength (heading (now row)) ≤ length (now row)) × (frontSheet (now row) ≡ boundedSheet (now words)) ⌝ }
+    requires { ⌜ (boundedLength (heading (now row)) ≤ length (now row)) × (frontSheet (now row) ≡ boundedSheet (now words) 0) ⌝ }
     requires { ⌜ Costs (now words) (now area) ⌝ }
     requires { ⌜ place < numberLimit ⌝ }
     requires { ⌜ length (now marks) ≡ mostBlocks ⌝ }

@@ -14,7 +14,7 @@ use Rattle.lent.proofs.guarded_move_in_place.Statement as stated
 use Rattle.lent.proofs.guarded_move_in_place.Code as code
 
 abbrev outcome : Call
-outcome w s n area = let r = guardedMove w s (record { choice = n; area = area }) in (r .answer, r .walk, r .area)
+outcome w h s n area = let r = guardedMove w h s (record { choice = n; area = area }) in (r .answer, r .walk, r .area)
 
 pub guarded-move-in-place-spec : {M : Type 1} → stated.statement M
 unfolding code.routine tablesOf

@@ -14,7 +14,7 @@ use Rattle.lent.proofs.start_guarded_in_place.Statement as stated
 use Rattle.lent.proofs.start_guarded_in_place.Code as code
 
 abbrev outcome : Call
-outcome w s n area = let r = guardedStart w s (record { number = n; area = area }) in (r .answer, r .walk, r .area)
+outcome w h s n area = let r = guardedStart w h s (record { number = n; area = area }) in (r .answer, r .walk, r .area)
 
 pub start-guarded-in-place-spec : {M : Type 1} → stated.statement M
 unfolding code.routine tablesOf

@@ -15,7 +15,7 @@ use Rattle.lent_steps.proofs.guarded_outset.Statement as stated
 use Rattle.lent_steps.proofs.guarded_outset.Code as code
 
 abbrev outcome : Call
-outcome w s n area = let r = guardedStart w s (record { number = n; area = area }) in (r .answer, r .walk, r .area)
+outcome w h s n area = let r = guardedStart w h s (record { number = n; area = area }) in (r .answer, r .walk, r .area)
 
 pub guarded-outset-spec : {M : Type 1} → stated.statement M
 unfolding code.routine tablesOf

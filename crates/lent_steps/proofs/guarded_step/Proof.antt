@@ -15,7 +15,7 @@ use Rattle.lent_steps.proofs.guarded_step.Statement as stated
 use Rattle.lent_steps.proofs.guarded_step.Code as code
 
 abbrev outcome : Call
-outcome w s n area = let r = guardedMove w s (record { choice = n; area = area }) in (r .answer, r .walk, r .area)
+outcome w h s n area = let r = guardedMove w h s (record { choice = n; area = area }) in (r .answer, r .walk, r .area)
 
 pub guarded-step-spec : {M : Type 1} → stated.statement M
 unfolding code.routine tablesOf

@@ -19,7 +19,7 @@ module _ (c : tie.After-front-sheet) where
   abbrev first : tie.Start
   first = c .before .before .before .before .before .before .before
 
-  sheet-is : c .front-sheet .result .now ≡ boundedSheet (first .args .words .now)
+  sheet-is : c .front-sheet .result .now ≡ boundedSheet (first .args .words .now) 0
   sheet-is = c .front-sheet .ensures ∙ first .pre .1 .0 .1
 
   few : c .before .read-header .result .blocks ≤ mostBlocks
