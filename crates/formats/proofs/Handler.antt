@@ -13,7 +13,7 @@ use Rattle.base.specs.Lists.{all, rising, lastOf, nth}
 use Rattle.base.specs.Checks.{Order, refused, over}
 use Rattle.base.proofs.Truth.{and-i, and-e}
 use Rattle.base.proofs.Numbers.{nth-in, nth-map, last-map, first-least}
-use Rattle.base.proofs.Orders.{Numbered, unrefused, tested, append-stops, append-passes, append-e, over-is, over-e, over-i, over-stops, over-passes}
+use Rattle.base.proofs.Orders.{Numbered, unrefused, tested, append-stops, append-passes, append-e, over-is, over-e, over-stops, over-passes}
 use Rattle.formats.specs.Limits.{mostBudget}
 use Rattle.formats.specs.Versions.{budgetsIn, smallestIn, lowered, badHandler, Claimed}
 use Rattle.formats.specs.GraphSheet.{lengthOrder, countsOrder, sizeOrder, budgetOrder, costOrder, edgeOrder, sheetOrder, sheetRefusal}
@@ -104,8 +104,7 @@ module _ (w : List ℕ) (h : ℕ) where
   unfolding handledRefusal handledOrder sheetRefusal sheetOrder badHandler over
   handled-e e =
       let a = over-e sheet-of first (handlerOrder ++ over sheet-of last) i first-numbered e in
-      let b = unrefused 42 (λ i. badHandler (i .handler) (i .sheet)) (over sheet-of last) i (a .1) in
-      (
+      let b = unrefused 42 (λ i. badHandler (i .handler) (i .sheet)) (over sheet-of last) i (a .1) in (
         append-passes first last w first-numbered (a .0) ∙ sym (over-is sheet-of last i) ∙ b .1,
         ltb-false (smallestIn w) h (b .0),
       )

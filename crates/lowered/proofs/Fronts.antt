@@ -6,7 +6,6 @@ use Prim.Native.Nat.{ℕ, suc, _+_, _-_, _<_}
 use native.Mathlib.Omega.{arith}
 use lib.ListN.{length, getD, take, drop}
 use lib.Seq.{take-at}
-use Rattle.base.specs.Lists.{nth}
 use Rattle.formats.specs.Versions.{lowered}
 use Rattle.formats.proofs.Handler.{lowered-nth}
 use Rattle.put_words.specs.Put.{putWords}

@@ -12,6 +12,7 @@ use walk::End;
 use walk::Moved;
 use walk::Walk;
 ghost use Prim.Native.Nat.{_<_, _≤_};
+ghost use lib.ListN.{length};
 
 // The example of document 01 at the budget 8.
 const SHEET: [u16; 37] = [
@@ -689,6 +690,23 @@ fn list_handled(h: u16, completions: &[u16], area: &mut [u8], sheet: &[u16]) {
     with_budget(&SHARED, h, completions, area, sheet, 2, choices, 4);
 }
 
+// How many words a build filled, by the header of a bounded sheet of the second version; no more than the row has.
+fn filled_words(sheet: &[u16]) -> usize
+    ensures { λ r. ⌜ r ≤ length (now (sheet .entry)) ⌝ }
+{
+    let n = 4 + 2 * word(sheet, 3) + 3 * word(sheet, 1) + 2 * word(sheet, 2);
+    if sheet.len() < n {
+        return sheet.len();
+    }
+    n
+}
+
+// The same on the words that a build filled.
+fn list_filled(h: u16, completions: &[u16], area: &mut [u8], row: &[u16]) {
+    let n = filled_words(row);
+    list_handled(h, completions, area, &row[..n]);
+}
+
 fn print_handled(h: u16) {
     io::write_all(STDOUT_FILENO, b"handler");
     number(wide(h));
@@ -701,7 +719,7 @@ fn print_handled(h: u16) {
     number(wide(answer));
     io::write_all(STDOUT_FILENO, b"\n");
     if answer == 0 {
-        list_handled(h, &completions, &mut area, &sheet);
+        list_filled(h, &completions, &mut area, &sheet);
     }
 }
 

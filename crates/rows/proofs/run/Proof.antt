@@ -8,10 +8,10 @@ use Rattle.rows.proofs.run.Statement.{statement}
 use Rattle.rows.proofs.run.Tie as tie
 
 abbrev Inv-loop : tie.InvT-loop
-Inv-loop graph completions area₀ sheet n choices m₀ j₀ area m j = (j ≤ 8) × (length area ≡ length area₀)
+Inv-loop graph h completions area₀ sheet n choices m₀ j₀ area m j = (j ≤ 8) × (length area ≡ length area₀)
 
 abbrev μ-loop : tie.MeasureT-loop
-μ-loop graph completions area₀ sheet n choices m₀ j₀ area m j = 8 - j
+μ-loop graph h completions area₀ sheet n choices m₀ j₀ area m j = 8 - j
 
 pub run-spec : {M : Type 1} → statement M
 run-spec =
