@@ -1,12 +1,16 @@
 /* A controller in C: reads a graph sheet of either version on standard input, builds its bounded sheet, starts a walk with one of its
- * budgets, number 1 unless another is named, and follows the choices given as arguments.
+ * budgets, number 1 unless -b names another, and follows the choices given as arguments. -h names the cost of the exception handler in
+ * cycles, 0 unless it is named. Options stand before the choices, in either order, each once at most.
  *
  *   rt staticlib gilstavo
  *   gcc -std=c99 -Wall -Wextra -Iinclude examples/controller.c target/staticlib/libgilstavo.a -o target/controller
  *   target/controller 1 2 1 1 1 < crates/listing/stdin
  *   target/controller -b 2 1 2 1 1 1 < two_budgets.sheet
+ *   target/controller -h 1 1 2 1 1 1 < crates/listing/stdin
  *
- * A build or a start that is refused is told by its number and ends with status 1; a move that is refused leaves the walk as it was.
+ * The first line shows the bounded sheet with its budgets, which are lowered by the handler's cost; with -h a second line shows those that
+ * the graph sheet claims. A build or a start that is refused is told by its number and ends with status 1; a move that is refused leaves
+ * the walk as it was.
  */
 #include <errno.h>
 #include <stdio.h>
@@ -37,7 +41,7 @@ static int read_words(size_t *words) {
     return ferror(stdin) ? -1 : (int)(bytes % 2);
 }
 
-/* A budget number or a choice is a number from 0 to 65,535; any other text is none, and ends the program. */
+/* A budget number, a cost or a choice is a number from 0 to 65,535; any other text is none, and ends the program. */
 static uint16_t read_number(const char *text) {
     char *end;
     errno = 0;
@@ -47,6 +51,13 @@ static uint16_t read_number(const char *text) {
         exit(2);
     }
     return (uint16_t)number;
+}
+
+static void show_numbers(const uint16_t *numbers, size_t count) {
+    for (size_t i = 0; i < count; i++) {
+        printf(" %u", numbers[i]);
+    }
+    printf("\n");
 }
 
 static int refused(uint16_t answer) {
@@ -61,19 +72,24 @@ static void show(uint16_t answer, const uint16_t *walk, size_t first) {
 }
 
 int main(int count, char **arguments) {
-    int next = 1;
-    uint16_t budget = 1;
-    if (count > 2 && strcmp(arguments[1], "-b") == 0) {
-        budget = read_number(arguments[2]);
-        next = 3;
+    /* Where the numbers of the options stand, 0 for an option that is not given; behind them the choices begin. */
+    int next = 1, budget_at = 0, handler_at = 0;
+    for (; next + 1 < count; next += 2) {
+        int *at = strcmp(arguments[next], "-b") == 0 ? &budget_at : strcmp(arguments[next], "-h") == 0 ? &handler_at : NULL;
+        if (at == NULL || *at != 0) {
+            break;
+        }
+        *at = next + 1;
     }
+    uint16_t budget = budget_at != 0 ? read_number(arguments[budget_at]) : 1;
+    uint16_t handler = handler_at != 0 ? read_number(arguments[handler_at]) : 0;
     size_t words;
     int odd = read_words(&words);
     if (odd < 0) {
         perror("standard input");
         return 2;
     }
-    uint16_t answer = odd ? 1 : gilstavo_build(sheet, words, area, sizeof area, bounded, GILSTAVO_MOST_OUTPUT);
+    uint16_t answer = odd ? 1 : gilstavo_build(sheet, words, handler, area, sizeof area, bounded, GILSTAVO_MOST_OUTPUT);
     if (answer != 0) {
         return refused(answer);
     }
@@ -86,10 +102,12 @@ int main(int count, char **arguments) {
     size_t first = second ? 4 + 2 * several : 3;
     size_t filled = first + 3 * (size_t)sizes[0] + 2 * (size_t)sizes[1];
     printf("copies %u edges %u budget", sizes[0], sizes[1]);
-    for (size_t i = 0; i < several; i++) {
-        printf(" %u", budgets[i]);
+    show_numbers(budgets, several);
+    if (handler_at != 0) {
+        /* The graph sheet has its budgets where the bounded sheet has them. */
+        printf("handler %u, claimed", handler);
+        show_numbers(sheet + (budgets - bounded), several);
     }
-    printf("\n");
 
     uint16_t walk[GILSTAVO_WALK_WORDS];
     answer = gilstavo_start_bounded(bounded, filled, walk, budget);

@@ -22,7 +22,7 @@ pub struct Tally {
 
 impl Tally {
     pub fn new() -> Tally {
-        Tally { answers: vec![0; 43], ..Tally::default() }
+        Tally { answers: vec![0; 44], ..Tally::default() }
     }
 
     /// Notes one call: its answer, and whether everything agrees.
@@ -35,6 +35,14 @@ impl Tally {
         if got != wanted {
             self.differences.push(format!("{name} on {}: {got:?}, the reference says {wanted:?}", shown_words(sheet)));
         }
+    }
+}
+
+/// A call's name with the handler's cost, where it has any.
+fn with(name: &str, handler: u16) -> String {
+    match handler {
+        0 => name.into(),
+        cost => format!("{name} with a handler of {cost}"),
     }
 }
 
@@ -109,8 +117,21 @@ fn places(sheet: &[u16]) -> usize {
     sheet.get(at).map_or(2, |places| usize::from(*places))
 }
 
-/// The check, a count, a weighing and a build of one graph sheet. Hands back the words of a build that was accepted.
-pub fn build_case(random: &mut Random, tally: &mut Tally, sheet: &[u16]) -> Option<Vec<u16>> {
+/// The budget with this number as a graph sheet or a bounded sheet has it; 0 for none.
+fn budget_in(sheet: &[u16], number: u32) -> u32 {
+    let budgets_at = if sheet[0] == 0 { 3 } else { 1 };
+    sheet.get(budgets_at + number as usize).map_or(0, |budget| u32::from(*budget))
+}
+
+/// The cost of a block as a graph sheet has it; 0 for none.
+fn cost_in(sheet: &[u16], block: u32) -> u32 {
+    let blocks_at = if sheet[0] == 0 { 4 + usize::from(sheet[3]) } else { 3 };
+    let record = (blocks_at + 2 * block as usize).checked_sub(2);
+    record.and_then(|record| sheet.get(record)).map_or(0, |cost| u32::from(*cost))
+}
+
+/// The check and a count of one graph sheet.
+pub fn sheet_case(random: &mut Random, tally: &mut Tally, sheet: &[u16]) {
     let answer = raw::check_graph(sheet);
     tally.call("check_graph", sheet, answer, answer, reference::check_graph(sheet));
 
@@ -121,28 +142,31 @@ pub fn build_case(random: &mut Random, tally: &mut Tally, sheet: &[u16]) -> Opti
     let answer = raw::count_successors(sheet, block, &mut count);
     let (wanted, number) = reference::successor_count(sheet, block);
     tally.call("count_successors", sheet, answer, (answer, count), (wanted, if wanted == 0 { number } else { junk }));
+}
 
+/// A weighing and a build of one graph sheet with a handler of this cost. Hands back the words of a build that was accepted.
+pub fn build_case(random: &mut Random, tally: &mut Tally, sheet: &[u16], handler: u16) -> Option<Vec<u16>> {
     // Buffers too short, exact and too long, with junk in them.
-    let area_size = area_length(random, sheet);
+    let area_size = area_length(random, sheet, handler);
     let area_before = junk_bytes(random, area_size);
-    let needed = match random::built_words(sheet) {
+    let needed = match random::built_words(sheet, handler) {
         Some(words) => words.len(),
         None => random.below(60),
     };
     let output_size = length_near(random, needed);
     let output_before = junk_words(random, output_size);
-    let wanted = reference::build(sheet, &area_before, &output_before);
+    let wanted = reference::build(sheet, handler, &area_before, &output_before);
 
     let mut area = area_before.clone();
-    let answer = raw::weigh(sheet, &mut area);
+    let answer = raw::weigh(sheet, handler, &mut area);
     let weighed = if matches!(wanted.answer, 10 | 22) { 0 } else { wanted.answer };
-    tally.call("weigh", sheet, answer, (answer, &area), (weighed, &wanted.area));
+    tally.call(&with("weigh", handler), sheet, answer, (answer, &area), (weighed, &wanted.area));
 
     let mut area = area_before;
     let mut output = output_before;
-    let answer = raw::build(sheet, &mut area, &mut output);
-    tally.call("build", sheet, answer, (answer, &area, &output), (wanted.answer, &wanted.area, &wanted.output));
-    if answer != 0 {
+    let answer = raw::build(sheet, handler, &mut area, &mut output);
+    tally.call(&with("build", handler), sheet, answer, (answer, &area, &output), (wanted.answer, &wanted.area, &wanted.output));
+    if (answer, wanted.answer) != (0, 0) {
         return None;
     }
     tally.built += 1;
@@ -150,17 +174,20 @@ pub fn build_case(random: &mut Random, tally: &mut Tally, sheet: &[u16]) -> Opti
     Some(output[..filled_words(&output)].to_vec())
 }
 
-/// One list of choices with one budget number of the sheet, given to the monitor, to guarded moves and to bounded moves on a sheet that
-/// was built. Both walks start by their start calls, and on a sheet of the first version in half of the cases as the starting walk.
-pub fn run_case(random: &mut Random, tally: &mut Tally, sheet: &[u16], bounded: &[u16]) {
+/// One list of choices with one handler and one budget number of the sheet, given to the monitor, to guarded moves and to bounded moves on a
+/// sheet that was built with that handler. Both walks start by their start calls, and on a sheet of the first version in half of the cases as
+/// the starting walk. The blocks that the bounded walk enters and the handler together stay within the claimed budget.
+pub fn run_case(random: &mut Random, tally: &mut Tally, sheet: &[u16], handler: u16, bounded: &[u16]) {
     let number = random::inside_number(random, sheet);
-    let monitor = match Monitor::new(sheet, number) {
+    let monitor = match Monitor::new(sheet, handler, number) {
         Ok(monitor) => monitor,
         Err(_) => return,
     };
-    let budgets_at = if bounded[0] == 0 { 4 } else { 2 };
-    let budget = u32::from(bounded[budgets_at + number as usize - 1]);
-    let needed = area_needed(sheet);
+    let (claimed, budget) = (budget_in(sheet, number), budget_in(bounded, number));
+    if budget + u32::from(handler) != claimed {
+        tally.differences.push(format!("budget {budget} with a handler of {handler} on {}", shown_words(sheet)));
+    }
+    let needed = area_needed(sheet, handler);
     let mut state = monitor.start();
     let (mut watched, mut walked) = (junk_walk(random), junk_walk(random));
     let block_of = |walked: [u16; 4]| {
@@ -172,53 +199,59 @@ pub fn run_case(random: &mut Random, tally: &mut Tally, sheet: &[u16], bounded: 
         raw::start(&mut walked);
     } else {
         let mut area = junk_bytes(random, needed);
-        let answer = raw::start_guarded(sheet, &mut area, &mut watched, number as u16);
-        tally.call("the guarded start of a list", sheet, answer, (answer, walk_of(watched)), (0, state));
+        let answer = raw::start_guarded(sheet, handler, &mut area, &mut watched, number as u16);
+        tally.call(&with("the guarded start of a list", handler), sheet, answer, (answer, walk_of(watched)), (0, state));
         let answer = raw::start_bounded(bounded, &mut walked, number as u16);
         let shown = Walk { place: block_of(walked), ..walk_of(walked) };
-        tally.call("the bounded start of a list", sheet, answer, (answer, shown), (0, state));
+        tally.call(&with("the bounded start of a list", handler), sheet, answer, (answer, shown), (0, state));
     }
-    let mut accepted = 0;
-    for choice in random::choices(random, sheet, number) {
+    let (mut accepted, mut cycles) = (0, 0);
+    for choice in random::choices(random, sheet, handler, number) {
         let choice = choice.min(65535);
         let longer = random.below(3);
         let mut area = junk_bytes(random, needed + longer);
         let (answer, after) = monitor.step(state, choice);
-        let by_graph = raw::guarded_move(sheet, &mut area, &mut watched, choice as u16);
+        let by_graph = raw::guarded_move(sheet, handler, &mut area, &mut watched, choice as u16);
         let by_copies = raw::bounded_move(bounded, &mut walked, choice as u16);
         state = after;
         accepted += u32::from(answer == 0);
         tally.moves += 2;
-        tally.call("a list of choices, guarded moves", sheet, by_graph, (by_graph, walk_of(watched)), (answer, state));
+        tally.call(&with("a list of choices, guarded moves", handler), sheet, by_graph, (by_graph, walk_of(watched)), (answer, state));
         let shown = Walk { place: block_of(walked), ..walk_of(walked) };
         let wanted = Walk { count: accepted, ..state };
-        tally.call("a list of choices, bounded moves", sheet, by_copies, (by_copies, shown), (answer, wanted));
+        tally.call(&with("a list of choices, bounded moves", handler), sheet, by_copies, (by_copies, shown), (answer, wanted));
         let most = if state.end == End::Going { budget } else { budget + 1 };
         if accepted > most {
             tally.differences.push(format!("{accepted} moves accepted on {}", shown_words(sheet)));
         }
+        let entered = by_copies == 0 && shown.end != End::Diverted;
+        cycles += if entered { cost_in(sheet, shown.place) } else { 0 };
+        if cycles + u32::from(handler) > claimed {
+            tally.differences.push(format!("{cycles} cycles and a handler of {handler} on {}", shown_words(sheet)));
+        }
     }
 }
 
-/// A guarded start with any budget number and any words in the walk, and a guarded move of any walk, on any graph sheet.
-pub fn guarded_case(random: &mut Random, tally: &mut Tally, sheet: &[u16]) {
-    let walk = walk_of(words_of(random::graph_walk(random, sheet)));
+/// A guarded start with any budget number and any words in the walk, and a guarded move of any walk, on any graph sheet with a handler of
+/// this cost.
+pub fn guarded_case(random: &mut Random, tally: &mut Tally, sheet: &[u16], handler: u16) {
+    let walk = walk_of(words_of(random::graph_walk(random, sheet, handler)));
     let choice = random::graph_choice(random, sheet, walk).min(65535);
-    let size = area_length(random, sheet);
+    let size = area_length(random, sheet, handler);
     let mut area = junk_bytes(random, size);
-    let (answer, after, area_after) = reference::guarded_move(sheet, &area, walk, choice);
+    let (answer, after, area_after) = reference::guarded_move(sheet, handler, &area, walk, choice);
     let mut row = words_of(walk);
-    let got = raw::guarded_move(sheet, &mut area, &mut row, choice as u16);
-    tally.call("guarded_move", sheet, got, (got, row, area), (answer, words_of(after), area_after));
+    let got = raw::guarded_move(sheet, handler, &mut area, &mut row, choice as u16);
+    tally.call(&with("guarded_move", handler), sheet, got, (got, row, area), (answer, words_of(after), area_after));
 
     let number = random::budget_number(random, sheet).min(65535);
-    let size = area_length(random, sheet);
+    let size = area_length(random, sheet, handler);
     let mut area = junk_bytes(random, size);
-    let (answer, set, area_after) = reference::start_guarded(sheet, &area, number);
+    let (answer, set, area_after) = reference::start_guarded(sheet, handler, &area, number);
     let before = junk_walk(random);
     let mut row = before;
-    let got = raw::start_guarded(sheet, &mut area, &mut row, number as u16);
-    tally.call("start_guarded", sheet, got, (got, row, area), (answer, set.map_or(before, words_of), area_after));
+    let got = raw::start_guarded(sheet, handler, &mut area, &mut row, number as u16);
+    tally.call(&with("start_guarded", handler), sheet, got, (got, row, area), (answer, set.map_or(before, words_of), area_after));
 }
 
 /// Rule 11, the edge words of a copy, a bounded move of any walk, and a bounded start with any budget number, on any bounded sheet.
@@ -250,25 +283,36 @@ pub fn bounded_case(random: &mut Random, tally: &mut Tally, sheet: &[u16]) {
 }
 
 /// Walks with an end that is none: refused 33 where the walk's turn comes, and nothing but the area is written.
-pub fn endless_case(random: &mut Random, tally: &mut Tally, sheet: &[u16], bounded: &[u16]) {
+pub fn endless_case(random: &mut Random, tally: &mut Tally, sheet: &[u16], handler: u16, bounded: &[u16]) {
     // The other words are mostly those of a walk in shape.
     let (far, any_end) = (random.below(65536), random.between(3, 65535));
     let place = random.pick(&[1, 2, 3, far]) as u16;
     let count = random.pick(&[0, 0, 1, far]) as u16;
     let end = random.pick(&[3, 3, 4, any_end]) as u16;
     let row = [place, count, end, random::budget_number(random, sheet).min(65535) as u16];
-    let size = area_length(random, sheet);
+    let size = area_length(random, sheet, handler);
     let mut area = junk_bytes(random, size);
     // A walk at no place is refused like one with no end.
     let nowhere = Walk { place: 0, ..Walk::start() };
-    let (answer, _, area_after) = reference::guarded_move(sheet, &area, nowhere, 1);
+    let (answer, _, area_after) = reference::guarded_move(sheet, handler, &area, nowhere, 1);
     let mut walk = row;
-    let got = raw::guarded_move(sheet, &mut area, &mut walk, 1);
-    tally.call("guarded_move with no end", sheet, got, (got, walk, area), (answer, row, area_after));
+    let got = raw::guarded_move(sheet, handler, &mut area, &mut walk, 1);
+    tally.call(&with("guarded_move with no end", handler), sheet, got, (got, walk, area), (answer, row, area_after));
     let (answer, _) = reference::bounded_move(bounded, nowhere, 1);
     let mut walk = row;
     let got = raw::bounded_move(bounded, &mut walk, 1);
     tally.call("bounded_move with no end", bounded, got, (got, walk), (answer, row));
+}
+
+/// The calls that take a handler, on any graph sheet with one that costs something.
+pub fn handler_case(random: &mut Random, tally: &mut Tally, sheet: &[u16], handler: u16) {
+    let built = build_case(random, tally, sheet, handler);
+    guarded_case(random, tally, sheet, handler);
+    if let Some(bounded) = &built {
+        run_case(random, tally, sheet, handler, bounded);
+        bounded_case(random, tally, bounded);
+    }
+    endless_case(random, tally, sheet, handler, built.as_deref().unwrap_or(&[]));
 }
 
 /// A bounded sheet of either version that need not come from a build: sound, damaged, or any words at all.

@@ -49,6 +49,18 @@ pub fn with_one_and_four(sheet: &[u16]) -> [Vec<u16>; 2] {
     [with_budgets(sheet, &[500]), with_budgets(sheet, &[125, 250, 375, 500])]
 }
 
+/// The accepted largest graphs with the same number of cycles for their blocks: claimed 500 with a handler of 100, and claimed 400 with none.
+pub fn lowered() -> Vec<[(Vec<u16>, u16); 2]> {
+    let accepted = largest().into_iter().filter(|(name, _)| name.starts_with("accepted"));
+    accepted.map(|(_, sheet)| [(sheet.clone(), 100), (claiming(sheet, 400), 0)]).collect()
+}
+
+/// A sheet of the first version with another budget.
+fn claiming(mut sheet: Vec<u16>, budget: u16) -> Vec<u16> {
+    sheet[2] = budget;
+    sheet
+}
+
 /// Two blocks, or three, with so many edges side by side as there may be.
 pub fn parallel() -> Vec<(&'static str, Vec<u16>)> {
     vec![

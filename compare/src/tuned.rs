@@ -1,6 +1,6 @@
 // A build tuned as one would in C: one pass of checks that decodes as it goes, rows that are kept between calls and cleared only as far as they
-// are used, completions as masks over blocks, marks as masks over lows. It rests on document 01 and request K2 of document 02; the comparison
-// holds it to the reference.
+// are used, completions as masks over blocks, marks as masks over lows. It rests on document 01 and requests K2 and K6 of document 02; the
+// measurement holds it to the reference.
 
 const MOST_BLOCKS: usize = 128;
 const MOST_EDGES: usize = 512;
@@ -11,22 +11,37 @@ const MOST_BOUNDED_EDGES: usize = 8192;
 const WIDTH: usize = MOST_BUDGET + 1;
 const NONE: u16 = u16::MAX;
 
-/// What the header of a graph sheet says; `budgets` are words of the sheet.
-struct Header<'a> {
+/// What the header of a graph sheet says.
+struct Header {
     second: bool,
     n: usize,
-    budgets: &'a [u16],
+    /// The budgets less the handler's cost, and how many there are.
+    lowered: [u16; MOST_BUDGETS],
+    several: usize,
 }
 
-impl Header<'_> {
+impl Header {
+    /// A header with these budgets, none of them below the handler's cost.
+    fn new(second: bool, n: usize, budgets: &[u16], handler: u16) -> Header {
+        let mut lowered = [0; MOST_BUDGETS];
+        for (lower, budget) in lowered.iter_mut().zip(budgets) {
+            *lower = budget - handler;
+        }
+        Header { second, n, lowered, several: budgets.len() }
+    }
+
+    fn budgets(&self) -> &[u16] {
+        &self.lowered[..self.several]
+    }
+
     /// The number of costs that the table has for each block.
     fn width(&self) -> usize {
-        self.budgets[self.budgets.len() - 1] as usize + 1
+        self.lowered[self.several - 1] as usize + 1
     }
 
     /// The number of words of the bounded sheet's header.
     fn bounded_words(&self) -> usize {
-        if self.second { 4 + 2 * self.budgets.len() } else { 3 }
+        if self.second { 4 + 2 * self.several } else { 3 }
     }
 }
 
@@ -60,8 +75,8 @@ impl Default for Workspace {
 }
 
 impl Workspace {
-    /// The conditions 1 to 8 with 41; where none holds the graph stands in flat rows.
-    fn check<'a>(&mut self, sheet: &'a [u16]) -> Result<Header<'a>, u16> {
+    /// The conditions 1 to 8 with 41 and 43; where none holds the graph stands in flat rows.
+    fn check(&mut self, sheet: &[u16], handler: u16) -> Result<Header, u16> {
         if sheet.len() < 3 {
             return Err(1);
         }
@@ -86,8 +101,11 @@ impl Workspace {
         if !(1..=MOST_BUDGETS).contains(&budgets.len()) || budgets.windows(2).any(|pair| pair[0] >= pair[1]) {
             return Err(41);
         }
+        if handler > budgets[0] {
+            return Err(43);
+        }
         match self.decode(&sheet[blocks_at..], n, m) {
-            0 => Ok(Header { second, n, budgets }),
+            0 => Ok(Header::new(second, n, budgets, handler)),
             answer => Err(answer),
         }
     }
@@ -171,7 +189,7 @@ impl Workspace {
         self.marks[..=header.n].fill([0; 8]);
         self.waiting.clear();
         let (mut copies, mut edges) = (0, 0);
-        for budget in header.budgets {
+        for budget in header.budgets() {
             let start = self.lows[*budget as usize];
             if start != NONE && self.marks[1][start as usize / 64] >> (start % 64) & 1 == 0 {
                 self.marks[1][start as usize / 64] |= 1 << (start % 64);
@@ -223,16 +241,16 @@ impl Workspace {
                 }
             }
         }
-        let several = header.budgets.len();
+        let several = header.several;
         if header.second {
             output[..4].copy_from_slice(&[0, copies as u16, edges as u16, several as u16]);
-            output[4..4 + several].copy_from_slice(header.budgets);
-            for (entry, budget) in output[4 + several..first].iter_mut().zip(header.budgets) {
+            output[4..4 + several].copy_from_slice(header.budgets());
+            for (entry, budget) in output[4 + several..first].iter_mut().zip(header.budgets()) {
                 let start = self.lows[*budget as usize];
                 *entry = if start == NONE { 0 } else { self.numbers[start as usize] };
             }
         } else {
-            output[..3].copy_from_slice(&[copies as u16, edges as u16, header.budgets[0]]);
+            output[..3].copy_from_slice(&[copies as u16, edges as u16, header.lowered[0]]);
         }
         let mut edge = 1;
         for copy in 0..copies {
@@ -251,8 +269,8 @@ impl Workspace {
     }
 
     /// The build: answer, work area and output row as documents 01 and 02 have them.
-    pub fn build(&mut self, sheet: &[u16], area: &mut [u8], output: &mut [u16]) -> u16 {
-        let header = match self.check(sheet) {
+    pub fn build(&mut self, sheet: &[u16], handler: u16, area: &mut [u8], output: &mut [u16]) -> u16 {
+        let header = match self.check(sheet, handler) {
             Ok(header) => header,
             Err(answer) => return answer,
         };

@@ -118,7 +118,7 @@ pub fn long_lines() -> Vec<u8> {
 /// that costs B, a cycle less or more, or far more, where B is mostly the largest budget.
 fn with_more_blocks(random: &mut Random, size: Size) -> Vec<u16> {
     let words = if random.chance(50) { buildable_graph(random, size) } else { buildable_second_graph(random, size) };
-    let Ok(graph) = Graph::read(&words) else {
+    let Ok(graph) = Graph::read(&words, 0) else {
         return words;
     };
     let ways = cheapest_ways(&graph);

@@ -1,5 +1,5 @@
-// Completion costs by rising cost, the copies reached by a work list, and the build of a bounded sheet.
-// It rests on graph.rs, the sections "Completions and copies", "Bounded sheet" and the order of refusals, and request K2 of document 02.
+// Completion costs by rising cost, the copies reached by a work list, and the build of a bounded sheet; every budget is a lowered one.
+// It rests on graph.rs, the sections "Completions and copies", "Bounded sheet" and the order of refusals, requests K2 and K6 of document 02.
 
 use crate::graph::Graph;
 use std::collections::{BTreeMap, BTreeSet};
@@ -7,7 +7,7 @@ use std::collections::{BTreeMap, BTreeSet};
 const MOST_COPIES: usize = 4096;
 const MOST_EDGES: usize = 8192;
 
-/// Which block has which completion cost up to the largest budget B: byte (block - 1) * (B + 1) + cost is 1 or 0.
+/// Which block has which completion cost up to the largest lowered budget B: byte (block - 1) * (B + 1) + cost is 1 or 0.
 pub(crate) struct Completions {
     budget: usize,
     bytes: Vec<u8>,
@@ -60,9 +60,9 @@ impl Completions {
     }
 }
 
-/// The table of completion costs of an accepted sheet; empty for a refused one.
-pub fn completion_table(words: &[u16]) -> Vec<u8> {
-    match Graph::read(words) {
+/// The table of completion costs of an accepted sheet with a handler of this cost; empty for a refused one.
+pub fn completion_table(words: &[u16], handler: u16) -> Vec<u8> {
+    match Graph::read(words, handler) {
         Ok(graph) => Completions::of(&graph).bytes,
         Err(_) => Vec::new(),
     }
@@ -75,10 +75,11 @@ pub(crate) struct Weighed {
     pub(crate) area: Vec<u8>,
 }
 
-/// The checks that a build, a guarded move and a guarded start share: 1 to 8 with 41, 21, 9; a refusal comes with the area as it is left.
-pub(crate) fn weighed(words: &[u16], area: &[u8]) -> Result<Weighed, (u16, Vec<u8>)> {
-    // 1 to 8 with 41, then 21: the work area keeps its content.
-    let graph = match Graph::read(words) {
+/// The checks that a build, a guarded move and a guarded start share: 1 to 8 with 41 and 43, 21, 9; a refusal comes with the area as it
+/// is left.
+pub(crate) fn weighed(words: &[u16], handler: u16, area: &[u8]) -> Result<Weighed, (u16, Vec<u8>)> {
+    // 1 to 8 with 41 and 43, then 21: the work area keeps its content.
+    let graph = match Graph::read(words, handler) {
         Ok(graph) => graph,
         Err(answer) => return Err((answer, area.to_vec())),
     };
@@ -90,7 +91,7 @@ pub(crate) fn weighed(words: &[u16], area: &[u8]) -> Result<Weighed, (u16, Vec<u
     let table = Completions::of(&graph);
     let area = table.written_over(area);
 
-    // 9: block 1 has no completion cost at or below the largest budget.
+    // 9: block 1 has no completion cost at or below the largest lowered budget.
     if table.largest(1, graph.largest_budget()).is_none() {
         return Err((9, area));
     }
@@ -142,7 +143,7 @@ fn reached_copies(
     Some((reached, edges))
 }
 
-/// The words of the bounded sheet of these copies, of the same version as the graph sheet.
+/// The words of the bounded sheet of these copies, of the same version as the graph sheet. It carries the lowered budgets.
 fn bounded_words(
     graph: &Graph,
     table: &Completions,
@@ -191,12 +192,12 @@ pub struct Built {
     pub output: Vec<u16>,
 }
 
-/// The build: answers 1 to 8 with 41, 21, 9, 10, 22, 0, the first that holds.
-pub fn build(words: &[u16], area: &[u8], output: &[u16]) -> Built {
+/// The build with a handler of this cost: answers 1 to 8 with 41 and 43, 21, 9, 10, 22, 0, the first that holds.
+pub fn build(words: &[u16], handler: u16, area: &[u8], output: &[u16]) -> Built {
     let refused = |answer: u16, area: Vec<u8>| Built { answer, area, output: output.to_vec() };
 
-    // 1 to 8 with 41, 21, 9.
-    let Weighed { graph, table, area } = match weighed(words, area) {
+    // 1 to 8 with 41 and 43, 21, 9.
+    let Weighed { graph, table, area } = match weighed(words, handler, area) {
         Ok(weighed) => weighed,
         Err((answer, area)) => return refused(answer, area),
     };

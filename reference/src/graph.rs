@@ -1,5 +1,5 @@
-// The graph sheet in both versions: its checks (refusals 1 to 8 with 41), the graph read from it, the number of successors.
-// It rests on header.rs, the section "Graph sheet" and rows 1 to 8 of the first table of refusals, and request K2 of document 02.
+// The graph sheet in both versions: its checks (refusals 1 to 8 with 41 and 43), the graph read from it, the number of successors.
+// It rests on header.rs, the section "Graph sheet" and rows 1 to 8 of the first table of refusals, and requests K2 and K6 of document 02.
 
 use crate::header;
 
@@ -8,19 +8,16 @@ pub(crate) struct Graph {
     pub(crate) blocks: usize,
     /// Whether the sheet is of the second version.
     pub(crate) second: bool,
-    /// The budgets, 1 to 4 of them, strictly rising; one for a sheet of the first version.
+    /// The budgets, each lowered by the handler's cost: 1 to 4 of them, strictly rising; one for a sheet of the first version.
     pub(crate) budgets: Vec<usize>,
     costs: Vec<usize>,
     successors: Vec<Vec<usize>>,
 }
 
 impl Graph {
-    /// The graph of this sheet, or the number of the refusal.
-    pub(crate) fn read(words: &[u16]) -> Result<Graph, u16> {
-        let answer = check_graph(words);
-        if answer != 0 {
-            return Err(answer);
-        }
+    /// The graph of this sheet with a handler of this cost, or the number of the refusal.
+    pub(crate) fn read(words: &[u16], handler: u16) -> Result<Graph, u16> {
+        check(words, handler)?;
         let sheet = Sheet::of(words);
         let mut costs = vec![0];
         let mut successors = vec![Vec::new()];
@@ -34,16 +31,18 @@ impl Graph {
             }
             successors.push(targets);
         }
-        let budgets = header::budgets(words).unwrap_or_default();
+        // No budget is below the handler's cost: 43 has been tested.
+        let claimed = header::budgets(words).unwrap_or_default();
+        let budgets = claimed.iter().map(|budget| budget - usize::from(handler)).collect();
         Ok(Graph { blocks: sheet.blocks, second: header::is_second(words), budgets, costs, successors })
     }
 
-    /// The largest budget: the last, since they rise.
+    /// The largest lowered budget: the last, since they rise.
     pub(crate) fn largest_budget(&self) -> usize {
         self.budgets[self.budgets.len() - 1]
     }
 
-    /// The budget with this number, or none for a number outside the sheet.
+    /// The lowered budget with this number, or none for a number outside the sheet.
     pub(crate) fn budget(&self, number: u32) -> Option<usize> {
         header::budget_numbered(&self.budgets, number)
     }
@@ -58,7 +57,7 @@ impl Graph {
         &self.successors[block]
     }
 
-    /// The number of bytes a work area must have: it goes by the largest budget.
+    /// The number of bytes a work area must have: it goes by the largest lowered budget.
     pub(crate) fn area_needed(&self) -> usize {
         self.blocks * (self.largest_budget() + 1)
     }
@@ -93,15 +92,18 @@ impl<'a> Sheet<'a> {
 
 /// 0 for an accepted graph sheet, else the first refusal in the order 1, 2, 3, 4, 41, 5, 6, 7, 8.
 pub fn check_graph(words: &[u16]) -> u16 {
-    accepted(words).err().unwrap_or(0)
+    // With a handler of cost 0 no budget is too small.
+    check(words, 0).err().unwrap_or(0)
 }
 
-fn accepted(words: &[u16]) -> Result<(), u16> {
+/// Refuses 1, 2, 3, 4, 41, 43, 5, 6, 7, 8 of a row and a handler of this cost, the first that holds.
+fn check(words: &[u16], handler: u16) -> Result<(), u16> {
     // 3: not exactly so many words as the header says.
     if words.len() != graph_length(words)? {
         return Err(3);
     }
     check_budgets(words)?;
+    check_handler(words, handler)?;
     check_costs(words)?;
     check_edges(words)
 }
@@ -138,6 +140,14 @@ pub(crate) fn check_budgets(words: &[u16]) -> Result<(), u16> {
         return Err(41);
     }
     Ok(())
+}
+
+/// Refuses 43 of a row that 4 and 41 let pass: the handler costs more than the smallest budget, the first, since they rise.
+fn check_handler(words: &[u16], handler: u16) -> Result<(), u16> {
+    match header::budgets(words).unwrap_or_default().first() {
+        Some(smallest) if usize::from(handler) > *smallest => Err(43),
+        _ => Ok(()),
+    }
 }
 
 /// Refuses 5 of a row of a graph sheet's length.
@@ -194,7 +204,7 @@ pub(crate) fn check_edges(words: &[u16]) -> Result<(), u16> {
 
 /// The answer and the number of successors of a block: 1 to 8 with 41, then 33 for a block outside 1..=N.
 pub fn successor_count(words: &[u16], block: u16) -> (u16, u16) {
-    let graph = match Graph::read(words) {
+    let graph = match Graph::read(words, 0) {
         Ok(graph) => graph,
         Err(answer) => return (answer, 0),
     };

@@ -1,5 +1,5 @@
-// The reference implementation of document 01 and of requests K1, K2, K4 and K5 of document 02: sheets, builds, walks, the monitor, reports,
-// the converter of operation sheets. It rests on the standard library alone; every public function is total.
+// The reference implementation of document 01 and of requests K1, K2, K4, K5 and K6 of document 02: sheets, builds, walks, the monitor,
+// reports, the converter of operation sheets. It rests on the standard library alone; every public function is total.
 
 mod bounded;
 pub mod catalogue;

@@ -1,5 +1,5 @@
 // The listing program's whole output for the bytes of a graph sheet.
-// It rests on construction.rs, the section with the worked example of document 01 and, for the heading, request K2 of document 02.
+// It rests on construction.rs, the section with the worked example of document 01, and requests K2, for the heading, and K6 of document 02.
 
 use crate::bounded::{copies_at, filled_words};
 use crate::construction::build;
@@ -17,7 +17,8 @@ pub fn listing(bytes: &[u8]) -> String {
     // Two bytes for each word, lower byte first.
     let words: Vec<u16> =
         bytes.chunks(2).map(|pair| u16::from(pair[0]) + 256 * u16::from(pair[1])).collect();
-    let built = build(&words, &vec![0; LARGEST_AREA], &vec![0; LARGEST_OUTPUT]);
+    // The listing takes the handler's cost as 0.
+    let built = build(&words, 0, &vec![0; LARGEST_AREA], &vec![0; LARGEST_OUTPUT]);
     if built.answer != 0 {
         return format!("refused {}\n", built.answer);
     }

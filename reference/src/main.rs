@@ -11,7 +11,7 @@ use std::io::{self, BufWriter, Read, Write};
 use std::process::ExitCode;
 
 const USAGE: &str = "usage: reference listing < sheet
-       reference build < decimal words
+       reference build [HANDLER] < decimal words
        reference encode < decimal words > sheet
        reference report < catalogue
        reference operations < operation sheet > sheet
@@ -27,23 +27,36 @@ const USAGE: &str = "usage: reference listing < sheet
        reference catalogue_long_lines > catalogue
        reference cases SEED COUNT tiny|small|any [KIND]";
 
-/// A kind of case: its name, and what makes one as fields of a line.
-type Kind = (&'static str, fn(&mut Random, Size) -> Vec<String>);
+/// What makes a case as fields of a line.
+enum Maker {
+    Plain(fn(&mut Random, Size) -> Vec<String>),
+    Handled(Handled),
+}
+
+/// A case with a handler: what makes its graph sheet, the handler's cost for it, and the fields of both.
+struct Handled {
+    sheet: fn(&mut Random, Size) -> Vec<u16>,
+    handler: fn(&mut Random, &[u16]) -> u16,
+    fields: fn(&mut Random, &[u16], u16) -> Vec<String>,
+}
+
+/// A kind of case: its name and its maker.
+type Kind = (&'static str, Maker);
 
 /// The kinds in the order in which they take turns.
 const KINDS: [Kind; 12] = [
-    ("graph", graph_case),
-    ("count", count_case),
-    ("build", build_case),
-    ("bounded", bounded_case),
-    ("guarded", guarded_case),
-    ("move", move_case),
-    ("part", part_case),
-    ("start_guarded", start_guarded_case),
-    ("start_bounded", start_bounded_case),
-    ("run", run_case),
-    ("report", report_case),
-    ("convert", convert_case),
+    ("graph", Maker::Plain(graph_case)),
+    ("count", Maker::Plain(count_case)),
+    ("build", Maker::Handled(Handled { sheet: mostly_valid, handler: random::handler, fields: build_case })),
+    ("bounded", Maker::Plain(bounded_case)),
+    ("guarded", Maker::Handled(Handled { sheet: mostly_buildable, handler: random::handler, fields: guarded_case })),
+    ("move", Maker::Plain(move_case)),
+    ("part", Maker::Plain(part_case)),
+    ("start_guarded", Maker::Handled(Handled { sheet: mostly_buildable, handler: random::handler, fields: start_guarded_case })),
+    ("start_bounded", Maker::Plain(start_bounded_case)),
+    ("run", Maker::Handled(Handled { sheet: rather_diverting, handler: accepted_handler, fields: run_case })),
+    ("report", Maker::Plain(report_case)),
+    ("convert", Maker::Plain(convert_case)),
 ];
 
 fn main() -> ExitCode {
@@ -51,7 +64,11 @@ fn main() -> ExitCode {
     let arguments: Vec<&str> = arguments.iter().map(String::as_str).collect();
     let done = match arguments[..] {
         ["listing"] => print_listing(),
-        ["build"] => print_build(),
+        ["build"] => print_build(0),
+        ["build", handler] => match handler.parse() {
+            Ok(handler) => print_build(handler),
+            Err(_) => return usage(),
+        },
         ["encode"] => print_encoded(),
         ["report"] => print_report(),
         ["operations"] => print_converted(),
@@ -151,9 +168,9 @@ fn print_encoded() -> io::Result<()> {
     io::stdout().lock().write_all(&bytes)
 }
 
-/// A build with buffers that are long enough: the answer, and the words that it fills.
-fn print_build() -> io::Result<()> {
-    let built = build(&read_text()?, &[0; LARGEST_AREA], &[0; LARGEST_OUTPUT]);
+/// A build with a handler of this cost and buffers that are long enough: the answer, and the words that it fills.
+fn print_build(handler: u16) -> io::Result<()> {
+    let built = build(&read_text()?, handler, &[0; LARGEST_AREA], &[0; LARGEST_OUTPUT]);
     let filled = match built.answer {
         0 => filled_words(&built.output),
         _ => 0,
@@ -162,23 +179,38 @@ fn print_build() -> io::Result<()> {
     Ok(())
 }
 
-/// The kinds take turns. Catalogues and operation sheets have a generator each, so that they leave the other cases of a seed as they are.
+/// The kinds take turns. Catalogues, operation sheets and handlers have a generator each, so that they leave the other cases of a seed as
+/// they are.
 fn print_cases(seed: u64, count: usize, size: Size, kinds: &[&Kind]) -> io::Result<()> {
     let mut random = Random::new(seed);
     let mut of_catalogues = Random::new(seed);
     let mut of_operations = Random::new(seed);
+    let mut of_handlers = Random::new(seed);
     let mut out = BufWriter::new(io::stdout().lock());
     for index in 0..count {
-        let (name, case) = kinds[index % kinds.len()];
+        let (name, maker) = kinds[index % kinds.len()];
         let generator = match *name {
             "report" => &mut of_catalogues,
             "convert" => &mut of_operations,
             _ => &mut random,
         };
-        let fields = case(generator, size);
+        let fields = match maker {
+            Maker::Plain(case) => case(generator, size),
+            Maker::Handled(case) => handled_case(generator, &mut of_handlers, size, case),
+        };
         writeln!(out, "{}", fields.join("\t"))?;
     }
     out.flush()
+}
+
+/// A case with a handler. The one of cost 0 is made first and draws from `random` alone, so that the next sheets do not hang on the cost.
+fn handled_case(random: &mut Random, of_handlers: &mut Random, size: Size, case: &Handled) -> Vec<String> {
+    let words = (case.sheet)(random, size);
+    let without = (case.fields)(random, &words, 0);
+    match (case.handler)(of_handlers, &words) {
+        0 => without,
+        handler => (case.fields)(of_handlers, &words, handler),
+    }
 }
 
 /// Numbers separated by single spaces.
@@ -219,18 +251,22 @@ fn count_case(random: &mut Random, size: Size) -> Vec<String> {
     vec!["count".into(), row(&words), block.to_string(), answer.to_string(), count.to_string()]
 }
 
-fn build_case(random: &mut Random, size: Size) -> Vec<String> {
-    let words = graph_words(random, size, 80);
-    let area_length = area_length(random, &words);
-    let needed = match random::built_words(&words) {
+fn mostly_valid(random: &mut Random, size: Size) -> Vec<u16> {
+    graph_words(random, size, 80)
+}
+
+fn build_case(random: &mut Random, words: &[u16], handler: u16) -> Vec<String> {
+    let area_length = area_length(random, words, handler);
+    let needed = match random::built_words(words, handler) {
         Some(built) => built.len(),
         None => random.below(20),
     };
     let output_length = length_near(random, needed);
-    let built = build(&words, &vec![7; area_length], &vec![9; output_length]);
+    let built = build(words, handler, &vec![7; area_length], &vec![9; output_length]);
     vec![
         "build".into(),
-        row(&words),
+        row(words),
+        handler.to_string(),
         area_length.to_string(),
         output_length.to_string(),
         built.answer.to_string(),
@@ -244,7 +280,7 @@ fn bounded_case(random: &mut Random, size: Size) -> Vec<String> {
     vec!["bounded".into(), row(&words), check_bounded(&words).to_string()]
 }
 
-/// A graph sheet of either version whose build is accepted.
+/// A graph sheet of either version whose build is accepted with a handler of cost 0.
 fn buildable(random: &mut Random, size: Size) -> Vec<u16> {
     if random.chance(40) {
         random::buildable_graph(random, size)
@@ -253,7 +289,7 @@ fn buildable(random: &mut Random, size: Size) -> Vec<u16> {
     }
 }
 
-/// Mostly a graph sheet whose build is accepted.
+/// Mostly such a graph sheet.
 fn mostly_buildable(random: &mut Random, size: Size) -> Vec<u16> {
     if random.chance(70) {
         buildable(random, size)
@@ -262,15 +298,15 @@ fn mostly_buildable(random: &mut Random, size: Size) -> Vec<u16> {
     }
 }
 
-fn guarded_case(random: &mut Random, size: Size) -> Vec<String> {
-    let words = mostly_buildable(random, size);
-    let area_length = area_length(random, &words);
-    let walk = random::graph_walk(random, &words);
-    let choice = random::graph_choice(random, &words, walk);
-    let (answer, after, area) = guarded_move(&words, &vec![7; area_length], walk, choice);
+fn guarded_case(random: &mut Random, words: &[u16], handler: u16) -> Vec<String> {
+    let area_length = area_length(random, words, handler);
+    let walk = random::graph_walk(random, words, handler);
+    let choice = random::graph_choice(random, words, walk);
+    let (answer, after, area) = guarded_move(words, handler, &vec![7; area_length], walk, choice);
     vec![
         "guarded".into(),
-        row(&words),
+        row(words),
+        handler.to_string(),
         area_length.to_string(),
         walk_text(walk),
         choice.to_string(),
@@ -308,15 +344,15 @@ fn part_case(random: &mut Random, size: Size) -> Vec<String> {
 }
 
 /// The start of a guarded walk: the walk that is lent, the budget number, and what the call leaves.
-fn start_guarded_case(random: &mut Random, size: Size) -> Vec<String> {
-    let words = mostly_buildable(random, size);
-    let area_length = area_length(random, &words);
-    let walk = random::graph_walk(random, &words);
-    let number = random::budget_number(random, &words);
-    let (answer, set, area) = start_guarded(&words, &vec![7; area_length], number);
+fn start_guarded_case(random: &mut Random, words: &[u16], handler: u16) -> Vec<String> {
+    let area_length = area_length(random, words, handler);
+    let walk = random::graph_walk(random, words, handler);
+    let number = random::budget_number(random, words);
+    let (answer, set, area) = start_guarded(words, handler, &vec![7; area_length], number);
     vec![
         "start_guarded".into(),
-        row(&words),
+        row(words),
+        handler.to_string(),
         area_length.to_string(),
         walk_text(walk),
         number.to_string(),
@@ -341,19 +377,18 @@ fn start_bounded_case(random: &mut Random, size: Size) -> Vec<String> {
     ]
 }
 
-/// Whether the build of this graph sheet is accepted and has a target 0.
+/// Whether the build of this graph sheet with a handler of cost 0 is accepted and has a target 0.
 fn has_diverted_edge(words: &[u16]) -> bool {
-    let Some(sheet) = random::built_words(words) else {
+    let Some(sheet) = random::built_words(words, 0) else {
         return false;
     };
     sheet.iter().skip(copies_at(&sheet) + 3 * places(&sheet)).step_by(2).any(|target| *target == 0)
 }
 
-/// A list of choices for the monitor with a budget number of the sheet: its answers and its last state.
-fn run_case(random: &mut Random, size: Size) -> Vec<String> {
+/// A graph sheet whose build is accepted, and where rather some edge is diverted, with a handler of cost 0.
+fn rather_diverting(random: &mut Random, size: Size) -> Vec<u16> {
     let mut words = buildable(random, size);
     if random.chance(60) {
-        // Rather a graph where some edge is diverted.
         for _ in 0..20 {
             if has_diverted_edge(&words) {
                 break;
@@ -361,11 +396,27 @@ fn run_case(random: &mut Random, size: Size) -> Vec<String> {
             words = buildable(random, size);
         }
     }
-    let number = random::inside_number(random, &words);
-    let choices = random::choices(random, &words, number);
+    words
+}
+
+/// A handler's cost with which the build of this graph sheet is accepted, as it is with 0.
+fn accepted_handler(random: &mut Random, words: &[u16]) -> u16 {
+    for _ in 0..20 {
+        let handler = random::handler(random, words);
+        if random::built_words(words, handler).is_some() {
+            return handler;
+        }
+    }
+    0
+}
+
+/// A list of choices for the monitor with a budget number of the sheet: its answers and its last state.
+fn run_case(random: &mut Random, words: &[u16], handler: u16) -> Vec<String> {
+    let number = random::inside_number(random, words);
+    let choices = random::choices(random, words, handler, number);
     let mut state = Walk::start();
     let mut answers = Vec::new();
-    if let Ok(monitor) = Monitor::new(&words, number) {
+    if let Ok(monitor) = Monitor::new(words, handler, number) {
         state = monitor.start();
         for choice in &choices {
             let (answer, after) = monitor.step(state, *choice);
@@ -373,7 +424,7 @@ fn run_case(random: &mut Random, size: Size) -> Vec<String> {
             state = after;
         }
     }
-    vec!["run".into(), row(&words), number.to_string(), row(&choices), row(&answers), walk_text(state)]
+    vec!["run".into(), row(words), handler.to_string(), number.to_string(), row(&choices), row(&answers), walk_text(state)]
 }
 
 /// The bytes of a catalogue, and the bytes of its report.

@@ -1,5 +1,5 @@
 // The report of a catalogue: figures and margins of each sheet, totals, the greatest fraction of copies to blocks, blocks that no kept path enters.
-// It rests on construction.rs for copies and edges, margins.rs, cheapest.rs for the kept paths, and requests K1, K2 and K5 of document 02.
+// It rests on construction.rs for copies and edges, margins.rs, cheapest.rs for the kept paths, and requests K1, K2, K5 and K6 of document 02.
 
 use crate::bounded::{filled_words, Bounded};
 use crate::cheapest::{cheapest_completions, cheapest_ways};
@@ -41,14 +41,15 @@ struct Figures {
     unused: Vec<usize>,
 }
 
-/// The figures of a sheet, or the number of its refusal: 3 for a length beyond the words left, else the build's.
+/// The figures of a sheet, or the number of its refusal: 3 for a length beyond the words left, else the build's. The handler's cost is
+/// taken as 0.
 fn figures(sheet: Option<Vec<u16>>) -> Result<Figures, u16> {
     let words = sheet.ok_or(3_u16)?;
-    let built = build(&words, &vec![0; LARGEST_AREA], &vec![0; LARGEST_OUTPUT]);
+    let built = build(&words, 0, &vec![0; LARGEST_AREA], &vec![0; LARGEST_OUTPUT]);
     if built.answer != 0 {
         return Err(built.answer);
     }
-    let graph = Graph::read(&words)?;
+    let graph = Graph::read(&words, 0)?;
     let (copies, edges) = header::sizes(&built.output);
     // No refusal: what a build fills keeps rule 11.
     let sheet = Bounded::read(&built.output[..filled_words(&built.output)])?;
@@ -69,7 +70,7 @@ fn blocks_not_entered(graph: &Graph) -> Vec<usize> {
 
 /// The blocks that no kept path enters; empty for a sheet refused 1 to 8 or 41.
 pub fn unused_blocks(words: &[u16]) -> Vec<usize> {
-    match Graph::read(words) {
+    match Graph::read(words, 0) {
         Ok(graph) => blocks_not_entered(&graph),
         Err(_) => Vec::new(),
     }

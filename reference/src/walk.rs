@@ -1,5 +1,5 @@
-// Walks: their starts, the guarded move on a graph sheet, the bounded move on a bounded sheet, and the monitor.
-// It rests on graph.rs, construction.rs, cheapest.rs, bounded.rs, the sections on walks and on the list of choices, and request K2 of document 02.
+// Walks: their starts, the guarded move on a graph sheet, the bounded move on a bounded sheet, and the monitor. It rests on graph.rs,
+// construction.rs, cheapest.rs, bounded.rs, the sections on walks and on the list of choices, and requests K2 and K6 of document 02.
 
 use crate::bounded::Bounded;
 use crate::cheapest::cheapest_completions;
@@ -55,11 +55,11 @@ fn chosen(targets: &[usize], choice: u32) -> Option<usize> {
     Some(targets[choice as usize - 1])
 }
 
-/// The start of a guarded walk with this budget number: answers 1 to 8 with 41, 21, 9, 33, 0; the walk that it sets, none under a
-/// refusal; the work area after it.
-pub fn start_guarded(words: &[u16], area: &[u8], number: u32) -> (u16, Option<Walk>, Vec<u8>) {
-    // 1 to 8 with 41, 21, 9: as for a move.
-    let Weighed { graph, table, area } = match weighed(words, area) {
+/// The start of a guarded walk with this budget number and a handler of this cost: answers 1 to 8 with 41 and 43, 21, 9, 33, 0; the walk
+/// that it sets, none under a refusal; the work area after it.
+pub fn start_guarded(words: &[u16], handler: u16, area: &[u8], number: u32) -> (u16, Option<Walk>, Vec<u8>) {
+    // 1 to 8 with 41 and 43, 21, 9: as for a move.
+    let Weighed { graph, table, area } = match weighed(words, handler, area) {
         Ok(weighed) => weighed,
         Err((answer, area)) => return (answer, None, area),
     };
@@ -70,7 +70,7 @@ pub fn start_guarded(words: &[u16], area: &[u8], number: u32) -> (u16, Option<Wa
         None => return (33, None, area),
     };
 
-    // Where nothing fits that budget the walk starts diverted.
+    // Where nothing fits that lowered budget the walk starts diverted.
     let walk = match table.largest(1, budget) {
         Some(_) => Walk::going_from(1, number),
         None => Walk::diverted_at_once(number),
@@ -99,20 +99,21 @@ pub fn start_bounded(words: &[u16], number: u32) -> (u16, Option<Walk>) {
     (0, Some(walk))
 }
 
-/// The guarded move: answers 1 to 8 with 41, 21, 9, 33, 32, 31, 0; the walk and the work area after it.
+/// The guarded move with a handler of this cost: answers 1 to 8 with 41 and 43, 21, 9, 33, 32, 31, 0; the walk and the work area after it.
 pub fn guarded_move(
     words: &[u16],
+    handler: u16,
     area: &[u8],
     walk: Walk,
     choice: u32,
 ) -> (u16, Walk, Vec<u8>) {
-    // 1 to 8 with 41, 21, 9.
-    let Weighed { graph, table, area } = match weighed(words, area) {
+    // 1 to 8 with 41 and 43, 21, 9.
+    let Weighed { graph, table, area } = match weighed(words, handler, area) {
         Ok(weighed) => weighed,
         Err((answer, area)) => return (answer, walk, area),
     };
 
-    // 33: walk out of shape. Its budget number says which budget is B.
+    // 33: walk out of shape. Its budget number says which lowered budget is B.
     let budget = match graph.budget(walk.budget) {
         Some(budget) => budget,
         None => return (33, walk, area),
@@ -188,19 +189,21 @@ pub fn bounded_move(words: &[u16], walk: Walk, choice: u32) -> (u16, Walk) {
     (0, after)
 }
 
-/// The plain monitor of one graph sheet and one of its budgets. It knows of each block its cheapest completion, and
+/// The plain monitor of one graph sheet, a handler and one of the sheet's budgets. It knows of each block its cheapest completion, and
 /// nothing that a build or a walk has written.
 pub struct Monitor {
     graph: Graph,
     cheapest: Vec<Option<usize>>,
+    /// B: the budget of this number, lowered by the handler's cost.
     budget: usize,
     number: u32,
 }
 
 impl Monitor {
-    /// The monitor of an accepted sheet and a budget number of it, or the number of the refusal: 1 to 8 with 41, then 33.
-    pub fn new(words: &[u16], number: u32) -> Result<Monitor, u16> {
-        let graph = Graph::read(words)?;
+    /// The monitor of an accepted sheet, a handler of this cost and a budget number of the sheet, or the number of the refusal: 1 to 8 with
+    /// 41 and 43, then 33.
+    pub fn new(words: &[u16], handler: u16, number: u32) -> Result<Monitor, u16> {
+        let graph = Graph::read(words, handler)?;
         let budget = graph.budget(number).ok_or(33_u16)?;
         let cheapest = cheapest_completions(&graph);
         Ok(Monitor { graph, cheapest, budget, number })
@@ -258,8 +261,8 @@ impl Monitor {
 }
 
 /// One step of the monitor with the state's budget number; a refused sheet is answered with its number, a number outside it with 33.
-pub fn monitor_step(words: &[u16], state: Walk, choice: u32) -> (u16, Walk) {
-    match Monitor::new(words, state.budget) {
+pub fn monitor_step(words: &[u16], handler: u16, state: Walk, choice: u32) -> (u16, Walk) {
+    match Monitor::new(words, handler, state.budget) {
         Ok(monitor) => monitor.step(state, choice),
         Err(answer) => (answer, state),
     }

@@ -20,7 +20,7 @@ fn looping(budgets: &[u16]) -> Vec<u16> {
 }
 
 fn sheet_of(words: &[u16]) -> Vec<u16> {
-    let built = build(words, &[7; LARGEST_AREA], &[9; LARGEST_OUTPUT]);
+    let built = build(words, 0, &[7; LARGEST_AREA], &[9; LARGEST_OUTPUT]);
     assert_eq!(built.answer, 0);
     let filled = filled_words(&built.output);
     assert!(built.output[filled..].iter().all(|word| *word == 9));
@@ -114,27 +114,27 @@ fn more_budgets_than_completion_costs() {
 fn the_area_and_the_output_go_by_the_new_header() {
     let words = paper(&[5, 9]);
     // The area goes by the largest budget: 8 * 10 bytes, as with the budget 9 alone.
-    let table = completion_table(&paper_example(9));
-    assert_eq!(completion_table(&words), table);
-    let short = build(&words, &[7; 79], &[9; 74]);
+    let table = completion_table(&paper_example(9), 0);
+    assert_eq!(completion_table(&words, 0), table);
+    let short = build(&words, 0, &[7; 79], &[9; 74]);
     assert_eq!(short, Built { answer: 21, area: vec![7; 79], output: vec![9; 74] });
     // 4 + 2 * 2 + 3 * 12 + 2 * 15 words.
-    let narrow = build(&words, &[7; 80], &[9; 73]);
+    let narrow = build(&words, 0, &[7; 80], &[9; 73]);
     assert_eq!(narrow, Built { answer: 22, area: table.clone(), output: vec![9; 73] });
-    let exact = build(&words, &[7; 81], &[9; 75]);
+    let exact = build(&words, 0, &[7; 81], &[9; 75]);
     assert_eq!(exact.answer, 0);
     assert_eq!((&exact.area[..80], exact.area[80]), (&table[..], 7));
     assert_eq!((&exact.output[..74], exact.output[74]), (&TWO[..], 9));
     // 9 by the largest budget, and the area holds the table then.
-    let unfit = build(&paper(&[1, 4]), &[7; 41], &[9; 2]);
+    let unfit = build(&paper(&[1, 4]), 0, &[7; 41], &[9; 2]);
     assert_eq!((unfit.answer, unfit.area[40], unfit.output), (9, 7, vec![9; 2]));
-    assert_eq!(unfit.area[..40], completion_table(&paper_example(4)));
-    assert_eq!(build(&paper(&[1, 4]), &[7; 39], &[9; 2]).answer, 21);
+    assert_eq!(unfit.area[..40], completion_table(&paper_example(4), 0));
+    assert_eq!(build(&paper(&[1, 4]), 0, &[7; 39], &[9; 2]).answer, 21);
 }
 
 #[test]
 fn limits_of_copies_and_edges() {
-    let answer = |words: &[u16]| build(words, &[7; LARGEST_AREA], &[9; LARGEST_OUTPUT]).answer;
+    let answer = |words: &[u16]| build(words, 0, &[7; LARGEST_AREA], &[9; LARGEST_OUTPUT]).answer;
     let sheet = sheet_of(&second_at_the_limits(1, 4, false));
     assert_eq!(sheet[..12], [0, 4096, 8192, 4, 415, 416, 417, 418, 1, 2, 3, 4]);
     assert_eq!((sheet.len(), check_bounded(&sheet)), (LARGEST_OUTPUT, 0));
@@ -142,15 +142,15 @@ fn limits_of_copies_and_edges() {
     assert_eq!(answer(&second_at_the_limits(1, 5, false)), 10);
     assert_eq!(answer(&second_at_the_limits(1, 1, true)), 10);
     // 10 before 22.
-    assert_eq!(build(&second_at_the_limits(1, 5, false), &[7; LARGEST_AREA], &[]).answer, 10);
-    assert_eq!(build(&second_at_the_limits(1, 4, false), &[7; LARGEST_AREA], &[9; LARGEST_OUTPUT - 1]).answer, 22);
+    assert_eq!(build(&second_at_the_limits(1, 5, false), 0, &[7; LARGEST_AREA], &[]).answer, 10);
+    assert_eq!(build(&second_at_the_limits(1, 4, false), 0, &[7; LARGEST_AREA], &[9; LARGEST_OUTPUT - 1]).answer, 22);
 }
 
 // Refusals of graph sheets.
 
 #[test]
 fn refusals_in_order() {
-    let answers: Vec<u16> = second_refusals().iter().map(|words| build(words, &[0; LARGEST_AREA], &[0; LARGEST_OUTPUT]).answer).collect();
+    let answers: Vec<u16> = second_refusals().iter().map(|words| build(words, 0, &[0; LARGEST_AREA], &[0; LARGEST_OUTPUT]).answer).collect();
     assert_eq!(answers, [1, 2, 3, 4, 41, 5, 6, 7, 8, 9, 10]);
     // Fewer than 3 words are 1 in both versions.
     assert_eq!(check_graph(&[0]), 1);
@@ -310,10 +310,10 @@ fn edge_words_behind_the_new_header() {
 #[test]
 fn guarded_starts() {
     let words = looping(&[2, 3, 7, 9]);
-    let table = completion_table(&words);
+    let table = completion_table(&words, 0);
     assert_eq!(table.len(), 30);
     let start = |number: u32| {
-        let (answer, walk, area) = start_guarded(&words, &[7; 31], number);
+        let (answer, walk, area) = start_guarded(&words, 0, &[7; 31], number);
         assert_eq!((&area[..30], area[30]), (&table[..], 7));
         (answer, walk)
     };
@@ -325,15 +325,15 @@ fn guarded_starts() {
         assert_eq!(start(number), (33, None));
     }
     // 1 to 8 with 41, 21 and 9 come first, and the area is as after a move.
-    assert_eq!(start_guarded(&[0, 2], &[7], 9), (1, None, vec![7]));
-    assert_eq!(start_guarded(&looping(&[3, 3]), &[7], 9), (41, None, vec![7]));
-    assert_eq!(start_guarded(&words, &[7; 29], 9), (21, None, vec![7; 29]));
-    let unfit = start_guarded(&looping(&[1, 2]), &[7; 9], 9);
-    assert_eq!(unfit, (9, None, completion_table(&looping(&[1, 2]))));
+    assert_eq!(start_guarded(&[0, 2], 0, &[7], 9), (1, None, vec![7]));
+    assert_eq!(start_guarded(&looping(&[3, 3]), 0, &[7], 9), (41, None, vec![7]));
+    assert_eq!(start_guarded(&words, 0, &[7; 29], 9), (21, None, vec![7; 29]));
+    let unfit = start_guarded(&looping(&[1, 2]), 0, &[7; 9], 9);
+    assert_eq!(unfit, (9, None, completion_table(&looping(&[1, 2]), 0)));
     // On the first version 1 is the only number.
-    assert_eq!(start_guarded(&paper_example(9), &[7; 80], 1).1, Some(Walk::start()));
-    assert_eq!(start_guarded(&paper_example(9), &[7; 80], 2).0, 33);
-    assert_eq!(start_guarded(&paper_example(4), &[7; 40], 1).0, 9);
+    assert_eq!(start_guarded(&paper_example(9), 0, &[7; 80], 1).1, Some(Walk::start()));
+    assert_eq!(start_guarded(&paper_example(9), 0, &[7; 80], 2).0, 33);
+    assert_eq!(start_guarded(&paper_example(4), 0, &[7; 40], 1).0, 9);
 }
 
 #[test]
@@ -360,7 +360,7 @@ fn bounded_starts() {
 
 #[test]
 fn the_monitor_starts_likewise() {
-    let start = |words: &[u16], number: u32| Monitor::new(words, number).map(|monitor| monitor.start());
+    let start = |words: &[u16], number: u32| Monitor::new(words, 0, number).map(|monitor| monitor.start());
     let words = looping(&[2, 3, 7, 9]);
     assert_eq!(start(&words, 1), Ok(diverted(1, 0, 1)));
     assert_eq!(start(&words, 2), Ok(going(1, 0, 2)));
@@ -369,8 +369,8 @@ fn the_monitor_starts_likewise() {
     assert_eq!(start(&looping(&[3, 3]), 9), Err(41));
     assert_eq!(start(&paper_example(9), 1), Ok(Walk::start()));
     assert_eq!(start(&paper_example(4), 1), Ok(diverted(1, 0, 1)));
-    assert_eq!(monitor_step(&words, diverted(1, 0, 1), 1), (32, diverted(1, 0, 1)));
-    assert_eq!(monitor_step(&words, going(1, 0, 5), 1), (33, going(1, 0, 5)));
+    assert_eq!(monitor_step(&words, 0, diverted(1, 0, 1), 1), (32, diverted(1, 0, 1)));
+    assert_eq!(monitor_step(&words, 0, going(1, 0, 5), 1), (33, going(1, 0, 5)));
 }
 
 // Moves.
@@ -379,8 +379,8 @@ fn the_monitor_starts_likewise() {
 fn guarded_moves_read_the_chosen_budget() {
     let words = paper(&[5, 9]);
     let go = |walk: Walk, choice: u32| {
-        let (answer, after, area) = guarded_move(&words, &[7; 80], walk, choice);
-        assert_eq!(area, completion_table(&paper_example(9)));
+        let (answer, after, area) = guarded_move(&words, 0, &[7; 80], walk, choice);
+        assert_eq!(area, completion_table(&paper_example(9), 0));
         (answer, after)
     };
     // At block 3 the way through block 5 costs 8 at least: within 9, not within 5.
@@ -397,11 +397,11 @@ fn guarded_moves_read_the_chosen_budget() {
         assert_eq!(go(going(1, 0, number), 0), (33, going(1, 0, number)));
         assert_eq!(go(at_exit(2, 5, number), 0).0, 33);
     }
-    assert_eq!(guarded_move(&paper_example(9), &[7; 80], going(1, 0, 2), 1).0, 33);
+    assert_eq!(guarded_move(&paper_example(9), 0, &[7; 80], going(1, 0, 2), 1).0, 33);
     // A going walk whose budget nothing fits is in shape; every way is diverted.
     let words = looping(&[2, 3]);
-    assert_eq!(guarded_move(&words, &[7; 12], going(1, 0, 1), 1).1, diverted(1, 0, 1));
-    assert_eq!(guarded_move(&words, &[7; 12], diverted(1, 0, 1), 1).0, 32);
+    assert_eq!(guarded_move(&words, 0, &[7; 12], going(1, 0, 1), 1).1, diverted(1, 0, 1));
+    assert_eq!(guarded_move(&words, 0, &[7; 12], diverted(1, 0, 1), 1).0, 32);
 }
 
 #[test]

@@ -1,11 +1,13 @@
-// Every example of document 01 as a test, its orders of refusals, and its claims on random sheets of both versions.
+// Every example of document 01 as a test, its orders of refusals, and its claims on random sheets of both versions; no handler costs anything.
 // It rests on the library's public functions and on paths enumerated one by one, nothing cleverer.
 
 mod paths;
+mod together;
 
 use paths::{blocks, budgets, cost, largest_budget, number_of_paths, paths, targets};
 use reference::random::{self, Random, Size};
 use reference::*;
+use together::{go_together, kept_and_stopped};
 
 const AREA: usize = LARGEST_AREA;
 const OUTPUT: usize = LARGEST_OUTPUT;
@@ -23,11 +25,7 @@ fn heading(words: &[u16]) -> String {
 }
 
 fn sheet_of(words: &[u16]) -> Vec<u16> {
-    let built = build(words, &vec![7; AREA], &vec![9; OUTPUT]);
-    assert_eq!(built.answer, 0);
-    let needed = filled_words(&built.output);
-    assert!(built.output[needed..].iter().all(|word| *word == 9));
-    built.output[..needed].to_vec()
+    together::sheet_of(words, 0)
 }
 
 fn going(place: u32, count: u32) -> Walk {
@@ -57,7 +55,7 @@ fn paper_example_is_the_sheet_described() {
 
 #[test]
 fn paper_example_completions_of_block_3() {
-    let table = completion_table(&paper_example(20));
+    let table = completion_table(&paper_example(20), 0);
     let costs: Vec<usize> = (0..=20).filter(|cost| table[2 * 21 + cost] == 1).collect();
     assert_eq!(costs, [5, 8, 9, 12]);
 }
@@ -183,26 +181,26 @@ fn number_of_successors() {
 #[test]
 fn build_answers_in_order_with_what_they_leave() {
     let words = paper_example(9);
-    let table = completion_table(&words);
+    let table = completion_table(&words, 0);
     assert_eq!(table.len(), 80);
     let needed = 3 + 3 * 9 + 2 * 11;
 
-    let refused = build(&words[..36], &[7; 3], &[9; 2]);
+    let refused = build(&words[..36], 0, &[7; 3], &[9; 2]);
     assert_eq!(refused, Built { answer: 3, area: vec![7; 3], output: vec![9; 2] });
 
-    let short = build(&paper_example(4), &[7; 39], &[9; 2]);
+    let short = build(&paper_example(4), 0, &[7; 39], &[9; 2]);
     assert_eq!(short, Built { answer: 21, area: vec![7; 39], output: vec![9; 2] });
 
-    let unfit = build(&paper_example(4), &[7; 42], &[9; 2]);
+    let unfit = build(&paper_example(4), 0, &[7; 42], &[9; 2]);
     assert_eq!((unfit.answer, &unfit.output), (9, &vec![9; 2]));
-    assert_eq!(unfit.area[..40], completion_table(&paper_example(4)));
+    assert_eq!(unfit.area[..40], completion_table(&paper_example(4), 0));
     assert_eq!(unfit.area[40..], [7, 7]);
 
-    let narrow = build(&words, &[7; 80], &vec![9; needed - 1]);
+    let narrow = build(&words, 0, &[7; 80], &vec![9; needed - 1]);
     assert_eq!((narrow.answer, narrow.area), (22, table.clone()));
     assert_eq!(narrow.output, vec![9; needed - 1]);
 
-    let exact = build(&words, &[7; 81], &vec![9; needed + 2]);
+    let exact = build(&words, 0, &[7; 81], &vec![9; needed + 2]);
     assert_eq!(exact.answer, 0);
     assert_eq!((&exact.area[..80], exact.area[80]), (&table[..], 7));
     assert_eq!(exact.output[..needed], sheet_of(&words));
@@ -215,14 +213,14 @@ fn limits_of_copies_and_edges() {
     assert_eq!(sheet_of(&graph(1, false))[..3], [4096, 8189, 134]);
     assert_eq!(sheet_of(&graph(4, false))[..3], [4096, 8192, 134]);
     assert_eq!(check_bounded(&sheet_of(&graph(4, false))), 0);
-    let answer = |words: &[u16], output: usize| build(words, &vec![7; AREA], &vec![9; output]).answer;
+    let answer = |words: &[u16], output: usize| build(words, 0, &vec![7; AREA], &vec![9; output]).answer;
     assert_eq!(answer(&graph(5, false), OUTPUT), 10);
     assert_eq!(answer(&graph(1, true), OUTPUT), 10);
     // 10 before 22, and the area holds the table.
     assert_eq!(answer(&graph(5, false), 0), 10);
     assert_eq!(answer(&graph(4, false), 0), 22);
-    let built = build(&graph(5, false), &vec![7; 48 * 135 + 1], &[9]);
-    assert_eq!(built.area[..48 * 135], completion_table(&graph(5, false)));
+    let built = build(&graph(5, false), 0, &vec![7; 48 * 135 + 1], &[9]);
+    assert_eq!(built.area[..48 * 135], completion_table(&graph(5, false), 0));
     assert_eq!((built.area[48 * 135], built.output), (7, vec![9]));
 }
 
@@ -289,18 +287,18 @@ fn edge_words_of_a_copy() {
 #[test]
 fn guarded_moves_in_order() {
     let words = paper_example(9);
-    let table = completion_table(&words);
+    let table = completion_table(&words, 0);
     let go = |walk: Walk, choice: u32| {
-        let (answer, after, area) = guarded_move(&words, &[7; 82], walk, choice);
+        let (answer, after, area) = guarded_move(&words, 0, &[7; 82], walk, choice);
         assert_eq!((&area[..80], &area[80..]), (&table[..], &[7, 7][..]));
         if answer != 0 {
             assert_eq!(after, walk);
         }
         (answer, after)
     };
-    assert_eq!(guarded_move(&words[..36], &[], going(9, 99), 0), (3, going(9, 99), vec![]));
-    assert_eq!(guarded_move(&words, &[7; 79], going(9, 99), 0), (21, going(9, 99), vec![7; 79]));
-    assert_eq!(guarded_move(&paper_example(4), &[7; 40], going(9, 99), 0).0, 9);
+    assert_eq!(guarded_move(&words[..36], 0, &[], going(9, 99), 0), (3, going(9, 99), vec![]));
+    assert_eq!(guarded_move(&words, 0, &[7; 79], going(9, 99), 0), (21, going(9, 99), vec![7; 79]));
+    assert_eq!(guarded_move(&paper_example(4), 0, &[7; 40], going(9, 99), 0).0, 9);
     assert_eq!(go(going(0, 0), 0).0, 33);
     assert_eq!(go(going(9, 0), 0).0, 33);
     assert_eq!(go(going(2, 0), 0).0, 33);
@@ -350,11 +348,11 @@ fn bounded_moves_in_order() {
 #[test]
 fn plain_monitor() {
     let words = paper_example(9);
-    assert_eq!(monitor_step(&words, Walk::start(), 1), (0, going(3, 2)));
-    assert_eq!(monitor_step(&words, Walk::start(), 0), (31, Walk::start()));
+    assert_eq!(monitor_step(&words, 0, Walk::start(), 1), (0, going(3, 2)));
+    assert_eq!(monitor_step(&words, 0, Walk::start(), 0), (31, Walk::start()));
     let diverted = ended(6, 7, End::Diverted);
-    assert_eq!(monitor_step(&words, going(6, 7), 2), (0, diverted));
-    assert_eq!(monitor_step(&words, diverted, 2), (32, diverted));
+    assert_eq!(monitor_step(&words, 0, going(6, 7), 2), (0, diverted));
+    assert_eq!(monitor_step(&words, 0, diverted, 2), (32, diverted));
 }
 
 // The claims, on random sheets.
@@ -396,14 +394,14 @@ fn tables_and_copies_agree_with_enumerated_paths() {
                 table[(block as usize - 1) * (budget + 1) + total] = 1;
             }
         }
-        assert_eq!(completion_table(&words), table);
+        assert_eq!(completion_table(&words, 0), table);
         let largest = |block: u16, left: usize| {
             let row = &table[(block as usize - 1) * (budget + 1)..][..=left];
             row.iter().rposition(|byte| *byte == 1)
         };
 
         // The start copies, and the copies: added round by round until no round adds one.
-        let built = build(&words, &vec![7; AREA], &vec![9; OUTPUT]);
+        let built = build(&words, 0, &vec![7; AREA], &vec![9; OUTPUT]);
         if largest(1, budget).is_none() {
             assert_eq!(built.answer, 9);
             continue;
@@ -467,66 +465,6 @@ fn tables_and_copies_agree_with_enumerated_paths() {
     assert!(checked > 2000);
 }
 
-/// The claim on a list of choices with one budget number of the sheet: monitor, bounded moves and guarded moves go together.
-fn go_together(words: &[u16], number: u32, choices: &[u32], random: &mut Random) {
-    let budget = budgets(words)[number as usize - 1] as u32;
-    let sheet = sheet_of(words);
-    assert_eq!(check_bounded(&sheet), 0);
-    let monitor = Monitor::new(words, number).ok().unwrap();
-    let area_needed = blocks(words) as usize * (largest_budget(words) + 1);
-    let junk = vec![random.below(256) as u8; area_needed];
-
-    // The starts: on a sheet of the first version the starting walk.
-    let mut state = monitor.start();
-    let (answer, started, _) = start_guarded(words, &junk, number);
-    let mut guarded = started.unwrap();
-    assert_eq!((answer, guarded), (0, state));
-    let (answer, started) = start_bounded(&sheet, number);
-    let mut bounded = started.unwrap();
-    let shown = |walk: Walk| u32::from(sheet[copies_at(&sheet) + 3 * (walk.place as usize - 1)]);
-    assert_eq!((answer, shown(bounded)), (0, 1));
-    assert_eq!((bounded.count, bounded.end, bounded.budget), (0, state.end, number));
-    if words[0] != 0 {
-        assert_eq!((state, bounded), (Walk::start(), Walk::start()));
-    }
-    let any_path = some_path_costs_at_most(words, budget as usize);
-    assert_eq!(state.end, if any_path { End::Going } else { End::Diverted });
-
-    let mut moves = 0;
-    for choice in choices {
-        let (first, after) = monitor.step(state, *choice);
-        assert_eq!(monitor_step(words, state, *choice), (first, after));
-        state = after;
-        let (second, after) = bounded_move(&sheet, bounded, *choice);
-        bounded = after;
-        let area = vec![random.below(256) as u8; area_needed];
-        let (third, after, _) = guarded_move(words, &area, guarded, *choice);
-        guarded = after;
-        assert_eq!((first, first), (second, third));
-        if first == 0 {
-            moves += 1;
-        }
-    }
-    assert_eq!((state.place, state.place), (shown(bounded), guarded.place));
-    assert_eq!((state.end, state.end), (bounded.end, guarded.end));
-    assert_eq!((number, number), (bounded.budget, guarded.budget));
-    assert_eq!(state.count, guarded.count);
-    assert!(state.count <= budget);
-    assert_eq!(bounded.count, moves);
-    if state.end == End::Going {
-        assert!(bounded.count <= budget);
-        assert!(monitor.successors(state.place) >= 1);
-        assert_eq!(monitor.step(state, 1).0, 0);
-    } else {
-        assert!(bounded.count <= budget + 1);
-    }
-}
-
-/// Whether some path from start to exit costs at most so much, by the row of block 1 in the table.
-fn some_path_costs_at_most(words: &[u16], budget: usize) -> bool {
-    completion_table(words)[..=budget].contains(&1)
-}
-
 #[test]
 fn lists_of_choices() {
     let mut random = Random::new(5);
@@ -534,44 +472,24 @@ fn lists_of_choices() {
         for round in 0..rounds {
             let words = buildable_of_both(&mut random, round, size);
             let number = random::inside_number(&mut random, &words);
-            let choices = random::choices(&mut random, &words, number);
-            go_together(&words, number, &choices, &mut random);
+            let choices = random::choices(&mut random, &words, 0, number);
+            go_together(&words, 0, number, &choices, &mut random);
         }
     }
-    go_together(&paper_example(9), 1, &[], &mut random);
-    go_together(&with_budgets(&paper_example(9), &[4, 9]), 1, &[], &mut random);
+    go_together(&paper_example(9), 0, 1, &[], &mut random);
+    go_together(&with_budgets(&paper_example(9), &[4, 9]), 0, 1, &[], &mut random);
 }
 
 #[test]
 fn paths_run_unchanged_exactly_within_the_budget() {
     let mut random = Random::new(23);
-    let mut kept = 0;
-    let mut stopped = 0;
+    let (mut kept, mut stopped) = (0, 0);
     for round in 0..1600 {
         let words = buildable_of_both(&mut random, round, Size::Tiny);
         let number = random::inside_number(&mut random, &words);
-        let budget = budgets(&words)[number as usize - 1];
-        if number_of_paths(&words, 1, budget + 3) > 500 {
-            continue;
-        }
-        let sheet = sheet_of(&words);
-        for (choices, blocks, total) in paths(&words, 1, budget + 3) {
-            let mut walk = start_bounded(&sheet, number).1.unwrap();
-            let mut shown = vec![1];
-            let mut unchanged = true;
-            for choice in &choices {
-                let (answer, after) = bounded_move(&sheet, walk, *choice);
-                unchanged &= answer == 0;
-                walk = after;
-                shown.push(sheet[copies_at(&sheet) + 3 * (walk.place as usize - 1)]);
-            }
-            unchanged &= shown == blocks && walk.end == End::Exit;
-            assert_eq!(unchanged, total <= budget);
-            if unchanged {
-                kept += 1;
-            } else {
-                stopped += 1;
-            }
+        if let Some(counts) = kept_and_stopped(&words, 0, number) {
+            kept += counts.0;
+            stopped += counts.1;
         }
     }
     assert!(kept > 1000 && stopped > 1000);
@@ -621,24 +539,24 @@ fn nothing_panics_and_refusals_keep_what_is_lent() {
         let area = vec![7; random.below(60)];
         let output = vec![9; random.below(60)];
         let answer = check_graph(&words);
-        let built = build(&words, &area, &output);
+        let built = build(&words, 0, &area, &output);
         if built.answer != 0 {
             assert_eq!(built.output, output);
         }
         if answer != 0 {
             assert_eq!(built.answer, answer);
-            assert_eq!(completion_table(&words), []);
+            assert_eq!(completion_table(&words, 0), []);
         }
         if answer != 0 || built.answer == 21 {
             assert_eq!(built.area, area);
         }
-        let walk = random::graph_walk(&mut random, &words);
-        let (answer, after, moved) = guarded_move(&words, &area, walk, random.below(4) as u32);
+        let walk = random::graph_walk(&mut random, &words, 0);
+        let (answer, after, moved) = guarded_move(&words, 0, &area, walk, random.below(4) as u32);
         if answer != 0 {
             assert_eq!(after, walk);
         }
         // A start leaves the area as a move does, and its refusals are the move's up to 33.
-        let (start, set, started) = start_guarded(&words, &area, walk.budget);
+        let (start, set, started) = start_guarded(&words, 0, &area, walk.budget);
         assert_eq!(started, moved);
         assert_eq!(set.is_some(), start == 0);
         if !matches!(answer, 0 | 31 | 32 | 33) {
@@ -651,7 +569,7 @@ fn nothing_panics_and_refusals_keep_what_is_lent() {
         }
         let (start, set) = start_bounded(&words, walk.budget);
         assert_eq!((start == 11, start == 0), (answer == 11, set.is_some()));
-        monitor_step(&words, walk, random.below(4) as u32);
+        monitor_step(&words, 0, walk, random.below(4) as u32);
         successor_count(&words, random.below(140) as u16);
         edge_words(&words, random.below(30) as u32);
         listing(&bytes(&words));

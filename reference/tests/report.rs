@@ -149,7 +149,7 @@ fn unused_blocks_agree_with_enumerated_paths_and_with_the_copies() {
     for round in 0..3000 {
         let size = if round % 3 == 0 { Size::Small } else { Size::Tiny };
         for words in catalogue_sheets(&short_catalogue(&mut random, size)).into_iter().flatten() {
-            let Some(built) = random::built_words(&words) else {
+            let Some(built) = random::built_words(&words, 0) else {
                 continue;
             };
             let found = unused_blocks(&words);
@@ -333,7 +333,7 @@ fn margins_agree_with_every_number_of_cycles() {
             _ if round % 300 == 152 => random::second_graph_near_the_limits(&mut random),
             _ => random::second_graph(&mut random, size),
         };
-        let Some(built) = random::built_words(&words) else {
+        let Some(built) = random::built_words(&words, 0) else {
             continue;
         };
         let budget = largest_budget(&words);

@@ -1,5 +1,8 @@
 // The public calls of libgilstavo.a for Rust: safe functions on slices, each with its refusal as a number.
 // It rests on raw.rs, the same calls with their answers as numbers. What each call promises is in docs/PROMISES.md.
+//
+// Calls that weigh are given the cost of the exception handler in cycles, `handler`, by which every budget of the graph sheet is lowered; one
+// cost is given to the build, the guarded starts and the guarded moves of a routine. B is a lowered budget.
 
 pub mod raw;
 mod walk;
@@ -43,7 +46,7 @@ impl std::fmt::Display for Refusal {
             6 => "a target that is 0, 1 or above N",
             7 => "the chains leave the sheet, meet an edge twice or miss an edge",
             8 => "the exit has a chain",
-            9 => "no path from start to exit within the budget",
+            9 => "no path from start to exit within the budget less the handler's cost",
             10 => "more than 4,096 copies or 8,192 edges",
             11 => "a bounded sheet that breaks a rule",
             21 => "work area shorter than N * (B + 1) bytes",
@@ -53,6 +56,7 @@ impl std::fmt::Display for Refusal {
             33 => "walk, block, copy or budget number outside the sheet, or walk out of shape",
             41 => "not 1 to 4 budgets, or budgets that do not rise strictly",
             42 => "not at most 4,096 operations from 0 to 15, each in one chain, some for every block but 1 and 2",
+            43 => "a handler that costs more than the smallest budget",
             _ => "unknown",
         };
         write!(out, "refused {}: {condition}", self.0)
@@ -88,15 +92,15 @@ fn graph_words(output: &[u16]) -> usize {
     header + 2 * usize::from(sizes[0]) + 2 * usize::from(sizes[1])
 }
 
-/// Weighs a graph sheet into the work area: 1 to 8 with 41, 21, 9. From 9 on the area holds the completion table.
-pub fn weigh(sheet: &[u16], area: &mut [u8]) -> Result<(), Refusal> {
-    Refusal::from_answer(raw::weigh(sheet, area))
+/// Weighs a graph sheet into the work area: 1 to 8 with 41 and 43, 21, 9. From 9 on the area holds the completion table up to B.
+pub fn weigh(sheet: &[u16], handler: u16, area: &mut [u8]) -> Result<(), Refusal> {
+    Refusal::from_answer(raw::weigh(sheet, handler, area))
 }
 
-/// Builds the bounded sheet of a graph sheet into the output row, of the same version: 1 to 8 with 41, 21, 9, 10, 22. Hands back the words
-/// that it filled.
-pub fn build<'a>(sheet: &[u16], area: &mut [u8], output: &'a mut [u16]) -> Result<&'a [u16], Refusal> {
-    Refusal::from_answer(raw::build(sheet, area, output))?;
+/// Builds the bounded sheet of a graph sheet into the output row, of the same version, with the lowered budgets: 1 to 8 with 41 and 43, 21, 9,
+/// 10, 22. Hands back the words that it filled.
+pub fn build<'a>(sheet: &[u16], handler: u16, area: &mut [u8], output: &'a mut [u16]) -> Result<&'a [u16], Refusal> {
+    Refusal::from_answer(raw::build(sheet, handler, area, output))?;
     Ok(&output[..filled_words(output)])
 }
 

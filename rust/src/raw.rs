@@ -14,10 +14,11 @@ mod exported {
             output: *mut u16,
             output_words: usize,
         ) -> u16;
-        pub fn gilstavo_weigh(sheet: *const u16, sheet_words: usize, area: *mut u8, area_bytes: usize) -> u16;
+        pub fn gilstavo_weigh(sheet: *const u16, sheet_words: usize, handler: u16, area: *mut u8, area_bytes: usize) -> u16;
         pub fn gilstavo_build(
             sheet: *const u16,
             sheet_words: usize,
+            handler: u16,
             area: *mut u8,
             area_bytes: usize,
             output: *mut u16,
@@ -35,6 +36,7 @@ mod exported {
         pub fn gilstavo_start_guarded(
             sheet: *const u16,
             sheet_words: usize,
+            handler: u16,
             area: *mut u8,
             area_bytes: usize,
             walk: *mut [u16; 4],
@@ -44,6 +46,7 @@ mod exported {
         pub fn gilstavo_guarded_move(
             sheet: *const u16,
             sheet_words: usize,
+            handler: u16,
             area: *mut u8,
             area_bytes: usize,
             walk: *mut [u16; 4],
@@ -67,15 +70,16 @@ pub fn convert_operations(sheet: &[u16], output: &mut [u16]) -> u16 {
     }
 }
 
-pub fn weigh(sheet: &[u16], area: &mut [u8]) -> u16 {
-    unsafe { exported::gilstavo_weigh(sheet.as_ptr(), sheet.len(), area.as_mut_ptr(), area.len()) }
+pub fn weigh(sheet: &[u16], handler: u16, area: &mut [u8]) -> u16 {
+    unsafe { exported::gilstavo_weigh(sheet.as_ptr(), sheet.len(), handler, area.as_mut_ptr(), area.len()) }
 }
 
-pub fn build(sheet: &[u16], area: &mut [u8], output: &mut [u16]) -> u16 {
+pub fn build(sheet: &[u16], handler: u16, area: &mut [u8], output: &mut [u16]) -> u16 {
     unsafe {
         exported::gilstavo_build(
             sheet.as_ptr(),
             sheet.len(),
+            handler,
             area.as_mut_ptr(),
             area.len(),
             output.as_mut_ptr(),
@@ -99,11 +103,12 @@ pub fn start(walk: &mut [u16; 4]) {
     unsafe { exported::gilstavo_start(walk) }
 }
 
-pub fn start_guarded(sheet: &[u16], area: &mut [u8], walk: &mut [u16; 4], budget: u16) -> u16 {
+pub fn start_guarded(sheet: &[u16], handler: u16, area: &mut [u8], walk: &mut [u16; 4], budget: u16) -> u16 {
     unsafe {
         exported::gilstavo_start_guarded(
             sheet.as_ptr(),
             sheet.len(),
+            handler,
             area.as_mut_ptr(),
             area.len(),
             walk,
@@ -116,11 +121,12 @@ pub fn start_bounded(sheet: &[u16], walk: &mut [u16; 4], budget: u16) -> u16 {
     unsafe { exported::gilstavo_start_bounded(sheet.as_ptr(), sheet.len(), walk, budget) }
 }
 
-pub fn guarded_move(sheet: &[u16], area: &mut [u8], walk: &mut [u16; 4], choice: u16) -> u16 {
+pub fn guarded_move(sheet: &[u16], handler: u16, area: &mut [u8], walk: &mut [u16; 4], choice: u16) -> u16 {
     unsafe {
         exported::gilstavo_guarded_move(
             sheet.as_ptr(),
             sheet.len(),
+            handler,
             area.as_mut_ptr(),
             area.len(),
             walk,

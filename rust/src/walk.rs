@@ -27,11 +27,11 @@ impl Walk {
         Walk::from_words(row)
     }
 
-    /// A walk that starts on a graph sheet with this budget number, diverted where nothing fits that budget: 1 to 8 with 41, 21, 9, 33.
-    /// The work area is as after a weighing.
-    pub fn start_guarded(sheet: &[u16], area: &mut [u8], budget: u16) -> Result<Walk, Refusal> {
+    /// A walk that starts on a graph sheet with this budget number, diverted where nothing fits that budget once lowered: 1 to 8 with 41 and
+    /// 43, 21, 9, 33. The work area is as after a weighing.
+    pub fn start_guarded(sheet: &[u16], handler: u16, area: &mut [u8], budget: u16) -> Result<Walk, Refusal> {
         let mut row = [0; 4];
-        let answer = raw::start_guarded(sheet, area, &mut row, budget);
+        let answer = raw::start_guarded(sheet, handler, area, &mut row, budget);
         Refusal::from_answer(answer).map(|()| Walk::from_words(row))
     }
 
@@ -61,10 +61,11 @@ impl Walk {
         Walk { place: row[0], count: row[1], end, budget: row[3] }
     }
 
-    /// A move on a graph sheet, guarded by its completion costs: 1 to 8 with 41, 21, 9, 33, 32, 31. The work area is as after a weighing.
-    pub fn guarded_move(&mut self, sheet: &[u16], area: &mut [u8], choice: u16) -> Result<(), Refusal> {
+    /// A move on a graph sheet, guarded by its completion costs: 1 to 8 with 41 and 43, 21, 9, 33, 32, 31. The work area is as after a
+    /// weighing.
+    pub fn guarded_move(&mut self, sheet: &[u16], handler: u16, area: &mut [u8], choice: u16) -> Result<(), Refusal> {
         let mut row = self.words();
-        let answer = raw::guarded_move(sheet, area, &mut row, choice);
+        let answer = raw::guarded_move(sheet, handler, area, &mut row, choice);
         *self = Walk::from_words(row);
         Refusal::from_answer(answer)
     }

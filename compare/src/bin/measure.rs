@@ -46,35 +46,39 @@ struct Times {
     reference: f64,
 }
 
-/// The build of one sheet, four times over.
+/// The build of one sheet with no cost of a handler, four times over.
 fn build(sheet: &[u16]) -> Times {
+    build_with(sheet, 0)
+}
+
+fn build_with(sheet: &[u16], handler: u16) -> Times {
     let mut rows = tuned::Workspace::default();
     let mut area = vec![7; gilstavo::MOST_AREA];
     let mut output = vec![9; gilstavo::MOST_OUTPUT];
-    let wanted = reference::build(sheet, &area, &output);
+    let wanted = reference::build(sheet, handler, &area, &output);
     let (mut other_area, mut other_output) = (area.clone(), output.clone());
     let (mut third_area, mut third_output) = (area.clone(), output.clone());
-    let answer = raw::build(sheet, &mut area, &mut output);
-    let other = plain::build(sheet, &mut other_area, &mut other_output);
+    let answer = raw::build(sheet, handler, &mut area, &mut output);
+    let other = plain::build(sheet, handler, &mut other_area, &mut other_output);
     assert_eq!((answer, &area, &output), (wanted.answer, &wanted.area, &wanted.output), "{sheet:?}");
     assert_eq!((other, &other_area, &other_output), (wanted.answer, &wanted.area, &wanted.output), "{sheet:?}");
-    let third = rows.build(sheet, &mut third_area, &mut third_output);
+    let third = rows.build(sheet, handler, &mut third_area, &mut third_output);
     assert_eq!((third, &third_area, &third_output), (wanted.answer, &wanted.area, &wanted.output), "{sheet:?}");
     let sizes = usize::from(output[0] == 0);
     let (copies, edges) = if answer == 0 { (output[sizes], output[sizes + 1]) } else { (0, 0) };
     let (kept_area, kept_output) = (area.clone(), output.clone());
     let took = timed(&mut [
         &mut || {
-            black_box(raw::build(black_box(sheet), &mut area, &mut output));
+            black_box(raw::build(black_box(sheet), handler, &mut area, &mut output));
         },
         &mut || {
-            black_box(rows.build(black_box(sheet), &mut third_area, &mut third_output));
+            black_box(rows.build(black_box(sheet), handler, &mut third_area, &mut third_output));
         },
         &mut || {
-            black_box(plain::build(black_box(sheet), &mut other_area, &mut other_output));
+            black_box(plain::build(black_box(sheet), handler, &mut other_area, &mut other_output));
         },
         &mut || {
-            black_box(reference::build(black_box(sheet), &kept_area, &kept_output));
+            black_box(reference::build(black_box(sheet), handler, &kept_area, &kept_output));
         },
     ]);
     Times { answer, copies, edges, library: took[0], tuned: took[1], plain: took[2], reference: took[3] }
@@ -92,6 +96,44 @@ fn show(name: &str, t: &Times) {
         t.reference,
         t.library / t.reference
     );
+}
+
+/// The library's times of the accepted largest graphs, claimed 500 with a handler of 100 and claimed 400 with none.
+fn lowered() {
+    let sheets = sheets::lowered();
+    let (mut with_handler, mut without) = (0.0, 0.0);
+    for [first, second] in &sheets {
+        // Every build is held to the reference, and then both of the library are timed in turn.
+        assert_eq!((build_with(&first.0, first.1).answer, build_with(&second.0, second.1).answer), (0, 0));
+        let took = pair(first, second);
+        with_handler += took[0];
+        without += took[1];
+    }
+    println!(
+        "the {} accepted ones claimed 500 with a handler of 100: {with_handler:.1} µs in all; claimed 400 with none: {without:.1}, ratio {:.2}",
+        sheets.len(),
+        with_handler / without
+    );
+}
+
+/// The library's build of two sheets, each with its handler, in turn; both make the same area and the same words.
+fn pair(first: &(Vec<u16>, u16), second: &(Vec<u16>, u16)) -> [f64; 2] {
+    let mut rows = [first, second].map(|(sheet, handler)| {
+        let (mut area, mut output) = (vec![7; gilstavo::MOST_AREA], vec![9; gilstavo::MOST_OUTPUT]);
+        assert_eq!(raw::build(sheet, *handler, &mut area, &mut output), 0);
+        (area, output)
+    });
+    assert_eq!(rows[0], rows[1]);
+    let [one, other] = &mut rows;
+    let took = timed(&mut [
+        &mut || {
+            black_box(raw::build(black_box(&first.0), first.1, &mut one.0, &mut one.1));
+        },
+        &mut || {
+            black_box(raw::build(black_box(&second.0), second.1, &mut other.0, &mut other.1));
+        },
+    ]);
+    [took[0], took[1]]
 }
 
 /// The times of some sheets: their sums, the means of their ratios, and the greatest ratio to the tuned build.
@@ -139,6 +181,7 @@ fn main() {
     for (name, times) in &largest {
         show(name, times);
     }
+    lowered();
     let yardstick =
         largest.iter().filter(|(_, t)| t.answer == 0).map(|(_, t)| t.library).fold(0.0, f64::max);
 
@@ -213,14 +256,14 @@ fn main() {
     let (_, sheet) = &sheets::largest()[4];
     let mut area = vec![7; gilstavo::MOST_AREA];
     let mut output = vec![9; gilstavo::MOST_OUTPUT];
-    assert_eq!(raw::build(sheet, &mut area, &mut output), 0);
+    assert_eq!(raw::build(sheet, 0, &mut area, &mut output), 0);
     moves("first version", sheet, &mut area, &output[..filled_words(&output)], 1);
     let [_, four] = sheets::with_one_and_four(sheet);
-    assert_eq!(raw::build(&four, &mut area, &mut output), 0);
+    assert_eq!(raw::build(&four, 0, &mut area, &mut output), 0);
     moves("four budgets, the last", &four, &mut area, &output[..filled_words(&output)], 4);
 }
 
-/// The times of the starts with this budget number, and of the first moves behind them.
+/// The times of the starts with this budget number, and of the first moves behind them, with no cost of a handler.
 fn moves(name: &str, sheet: &[u16], area: &mut [u8], bounded: &[u16], number: u16) {
     let kept_area = area.to_vec();
     let guarded = Walk { budget: u32::from(number), ..Walk::start() };
@@ -230,10 +273,10 @@ fn moves(name: &str, sheet: &[u16], area: &mut [u8], bounded: &[u16], number: u1
     let area = std::cell::RefCell::new(area);
     let took = timed(&mut [
         &mut || {
-            black_box(raw::guarded_move(black_box(sheet), &mut area.borrow_mut(), &mut guarded_row.clone(), 1));
+            black_box(raw::guarded_move(black_box(sheet), 0, &mut area.borrow_mut(), &mut guarded_row.clone(), 1));
         },
         &mut || {
-            black_box(reference::guarded_move(black_box(sheet), &kept_area, guarded, 1));
+            black_box(reference::guarded_move(black_box(sheet), 0, &kept_area, guarded, 1));
         },
         &mut || {
             black_box(raw::bounded_move(black_box(bounded), &mut bounded_row.clone(), 1));
@@ -242,10 +285,10 @@ fn moves(name: &str, sheet: &[u16], area: &mut [u8], bounded: &[u16], number: u1
             black_box(reference::bounded_move(black_box(bounded), walked, 1));
         },
         &mut || {
-            black_box(raw::start_guarded(black_box(sheet), &mut area.borrow_mut(), &mut [0; 4], number));
+            black_box(raw::start_guarded(black_box(sheet), 0, &mut area.borrow_mut(), &mut [0; 4], number));
         },
         &mut || {
-            black_box(reference::start_guarded(black_box(sheet), &kept_area, u32::from(number)));
+            black_box(reference::start_guarded(black_box(sheet), 0, &kept_area, u32::from(number)));
         },
         &mut || {
             black_box(raw::start_bounded(black_box(bounded), &mut [0; 4], number));

@@ -17,9 +17,12 @@ fn main() -> ExitCode {
     }
     sheets.push(sheets::deepest());
     sheets.push(reference::with_budgets(&sheets::deepest(), &[497, 498, 499, 500]));
+    // With no cost of a handler; with one the descent is that of a smaller budget.
+    let mut cases: Vec<(Vec<u16>, u16)> = sheets.into_iter().map(|sheet| (sheet, 0)).collect();
+    cases.push((sheets::deepest(), 1));
     let mut failed = 0;
-    for sheet in sheets {
-        let wanted = reference::build(&sheet, &[7; gilstavo::MOST_AREA], &[9; gilstavo::MOST_OUTPUT]);
+    for (sheet, handler) in cases {
+        let wanted = reference::build(&sheet, handler, &[7; gilstavo::MOST_AREA], &[9; gilstavo::MOST_OUTPUT]);
         let heading = match sheet[0] {
             0 => format!("N {} E {} B {:?}", sheet[1], sheet[2], &sheet[4..4 + usize::from(sheet[3])]),
             _ => format!("N {} E {} B {}", sheet[0], sheet[1], sheet[2]),
@@ -27,7 +30,7 @@ fn main() -> ExitCode {
         let mut area = vec![7; gilstavo::MOST_AREA];
         let mut output = vec![9; gilstavo::MOST_OUTPUT];
         let thread = std::thread::Builder::new().stack_size(size * 1024).spawn(move || {
-            let answer = gilstavo::raw::build(&sheet, &mut area, &mut output);
+            let answer = gilstavo::raw::build(&sheet, handler, &mut area, &mut output);
             (answer, area, output)
         });
         let Ok(Ok((answer, area, output))) = thread.map(|thread| thread.join()) else {
@@ -36,7 +39,7 @@ fn main() -> ExitCode {
         };
         let same = (answer, &area, &output) == (wanted.answer, &wanted.area, &wanted.output);
         failed += u8::from(!same);
-        println!("{heading}: answer {answer}, {}", if same { "agrees" } else { "DIFFERS" });
+        println!("{heading}, handler {handler}: answer {answer}, {}", if same { "agrees" } else { "DIFFERS" });
     }
     ExitCode::from(failed.min(1))
 }

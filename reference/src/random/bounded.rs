@@ -5,9 +5,9 @@ use super::{budgets, buildable_graph, buildable_second_graph, change_a_word, cha
 use crate::{build, check_bounded, filled_words, LARGEST_AREA, LARGEST_OUTPUT};
 use std::collections::BTreeSet;
 
-/// The bounded sheet of a graph sheet, if its build is accepted.
-pub fn built_words(words: &[u16]) -> Option<Vec<u16>> {
-    let built = build(words, &vec![0; LARGEST_AREA], &vec![0; LARGEST_OUTPUT]);
+/// The bounded sheet of a graph sheet with a handler of this cost, if its build is accepted.
+pub fn built_words(words: &[u16], handler: u16) -> Option<Vec<u16>> {
+    let built = build(words, handler, &vec![0; LARGEST_AREA], &vec![0; LARGEST_OUTPUT]);
     if built.answer != 0 {
         return None;
     }
@@ -280,7 +280,7 @@ fn damage_second_header(random: &mut Random, words: &mut Vec<u16>) {
 pub fn sound_bounded_sheet(random: &mut Random, size: Size) -> Vec<u16> {
     if random.chance(60) {
         let graph = buildable_graph(random, size);
-        if let Some(words) = built_words(&graph) {
+        if let Some(words) = built_words(&graph, 0) {
             return words;
         }
     }
@@ -291,7 +291,7 @@ pub fn sound_bounded_sheet(random: &mut Random, size: Size) -> Vec<u16> {
 pub fn sound_second_bounded_sheet(random: &mut Random, size: Size) -> Vec<u16> {
     if random.chance(50) {
         let graph = buildable_second_graph(random, size);
-        if let Some(words) = built_words(&graph) {
+        if let Some(words) = built_words(&graph, 0) {
             return words;
         }
     }

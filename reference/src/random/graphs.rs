@@ -212,7 +212,7 @@ fn draft_costs(random: &mut Random, draft: &mut Draft, budget: usize) {
 /// A budget up to `most`, often at or next to a completion cost of the start.
 fn draft_budget(random: &mut Random, draft: &Draft, most: usize) -> usize {
     let words = draft.sheet(random, most);
-    let table = completion_table(&words);
+    let table = completion_table(&words, 0);
     let costs: Vec<usize> = (0..=most).filter(|cost| table.get(*cost) == Some(&1)).collect();
     let aimed = random.chance(75);
     let budget = match random.below(10) {
@@ -231,7 +231,7 @@ fn draft_budget(random: &mut Random, draft: &Draft, most: usize) -> usize {
 /// same two of them, so that start copies are equal, and anywhere.
 fn draft_budgets(random: &mut Random, draft: &Draft, most: usize) -> Vec<usize> {
     let words = draft.sheet(random, most);
-    let table = completion_table(&words);
+    let table = completion_table(&words, 0);
     let costs: Vec<usize> = (0..=most).filter(|cost| table.get(*cost) == Some(&1)).collect();
     let number = random.between(1, 4);
     let mut budgets = Vec::new();
@@ -559,22 +559,22 @@ pub fn many_budgets(random: &mut Random, most_words: usize) -> Vec<u16> {
 
 // Graph sheets for a comparison.
 
-/// A graph sheet of the first version whose build is accepted.
+/// A graph sheet of the first version whose build is accepted with a handler of cost 0.
 pub fn buildable_graph(random: &mut Random, size: Size) -> Vec<u16> {
     for _ in 0..100 {
         let words = valid_graph(random, size);
-        if built_words(&words).is_some() {
+        if built_words(&words, 0).is_some() {
             return words;
         }
     }
     vec![2, 1, 0, 0, 1, 0, 0, 2, 0]
 }
 
-/// A graph sheet of the second version whose build is accepted.
+/// A graph sheet of the second version whose build is accepted with a handler of cost 0.
 pub fn buildable_second_graph(random: &mut Random, size: Size) -> Vec<u16> {
     for _ in 0..100 {
         let words = second_graph(random, size);
-        if built_words(&words).is_some() {
+        if built_words(&words, 0).is_some() {
             return words;
         }
     }

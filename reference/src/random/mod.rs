@@ -1,4 +1,4 @@
-// Seeded random material: a small generator and what the kinds of material share.
+// Seeded random material: a small generator, what the kinds of material share, and the costs of handlers.
 // It rests on splitmix64; the material aims at interesting values by the library's own checks, build and monitor.
 
 mod bounded;
@@ -14,7 +14,7 @@ pub use graphs::{
 pub use operations::{damaged_operations, graph_length, graph_row_length, operation_words, sound_operations};
 pub use walks::{bounded_choice, bounded_walk, budget_number, choices, graph_choice, graph_walk, inside_number};
 
-use crate::{check_graph, header};
+use crate::{check_graph, completion_table, header};
 
 /// A small deterministic generator (splitmix64).
 pub struct Random {
@@ -141,6 +141,11 @@ fn largest(budgets: &[usize]) -> usize {
     budgets.iter().copied().max().unwrap_or(0)
 }
 
+/// The budgets of a row in either version, each lowered by the handler's cost; 0 where that is not possible.
+fn lowered_budgets(words: &[u16], handler: u16) -> Vec<usize> {
+    budgets(words).iter().map(|budget| budget.saturating_sub(usize::from(handler))).collect()
+}
+
 /// A value to put in place of `old`: near it, near a number of the header, or anything.
 fn odd_value(random: &mut Random, words: &[u16], layout: Layout, old: usize) -> usize {
     let at = layout.sizes_at();
@@ -200,16 +205,50 @@ pub fn length_near(random: &mut Random, needed: usize) -> usize {
     }
 }
 
-/// The length that a work area needs for an accepted graph sheet: N * (B + 1), by the largest budget.
-pub fn area_needed(words: &[u16]) -> usize {
-    sizes(words).0 * (largest(&budgets(words)) + 1)
+/// The length that a work area needs for an accepted graph sheet: N * (B + 1), by the largest lowered budget.
+pub fn area_needed(words: &[u16], handler: u16) -> usize {
+    sizes(words).0 * (largest(&lowered_budgets(words, handler)) + 1)
 }
 
-/// A length of the work area near the needed one, or some short length under a refused header.
-pub fn area_length(random: &mut Random, words: &[u16]) -> usize {
+/// A length of the work area near the needed one, or some short length under a refused header. Where the handler costs more than a budget,
+/// in half of the cases near the one that the claimed budgets would need.
+pub fn area_length(random: &mut Random, words: &[u16], handler: u16) -> usize {
+    let too_dear = budgets(words).iter().any(|budget| *budget < usize::from(handler));
     let needed = match check_graph(words) {
         1..=4 | 41 => random.below(40),
-        _ => area_needed(words),
+        _ if too_dear && random.chance(50) => area_needed(words, 0),
+        _ => area_needed(words, handler),
     };
     length_near(random, needed)
+}
+
+/// A handler's cost for a graph sheet: 0 in about a third of the cases, most of them where a budget is 0; else small, up to the smallest
+/// budget, so that a budget becomes a completion cost of the start, at the smallest budget or next to it, between that and the largest,
+/// above every budget, or the largest word.
+pub fn handler(random: &mut Random, words: &[u16]) -> u16 {
+    let budgets = budgets(words);
+    let (smallest, largest) = (budgets.iter().copied().min().unwrap_or(0), largest(&budgets));
+    let cost = match random.below(24) {
+        0..=3 => 0,
+        4..=6 => random.pick(&[1, 1, 2, 3, 4]),
+        7..=12 => random.between(smallest.min(1), smallest),
+        13..=17 => exact_handler(random, words, &budgets),
+        18 => smallest.saturating_sub(1),
+        19 => smallest,
+        20 => smallest + 1,
+        21 => random.between(smallest, largest),
+        22 => random.between(largest + 1, largest + 500),
+        _ => 65535,
+    };
+    cost.min(65535) as u16
+}
+
+/// A handler's cost up to the smallest budget that leaves of some budget exactly a completion cost of block 1; 0 if there is none.
+fn exact_handler(random: &mut Random, words: &[u16], budgets: &[usize]) -> usize {
+    let table = completion_table(words, 0);
+    let costs: Vec<usize> = (0..=largest(budgets)).filter(|cost| table.get(*cost) == Some(&1)).collect();
+    // A refused sheet has no costs; an accepted one has its smallest budget first.
+    let left = |budget: &usize| costs.iter().filter_map(|cost| budget.checked_sub(*cost)).collect::<Vec<_>>();
+    let exact: Vec<usize> = budgets.iter().flat_map(left).filter(|cost| (1..=budgets[0]).contains(cost)).collect();
+    random.pick(&exact)
 }

@@ -1,7 +1,7 @@
 // Random walks, budget numbers, choices and lists of choices for a sheet of either version.
 // It rests on the library's number of successors, edge words and monitor.
 
-use super::{budgets, get, largest, place_but, sizes, Layout, Random};
+use super::{get, largest, lowered_budgets, place_but, sizes, Layout, Random};
 use crate::{edge_words, successor_count};
 use crate::{End, Monitor, Walk};
 
@@ -22,11 +22,11 @@ pub fn budget_number(random: &mut Random, words: &[u16]) -> u32 {
     }
 }
 
-/// A walk for a sheet with so many places and the exit at this one, in shape or out of shape. `beyond` is 1 where an ended walk may
-/// count one more than the budget.
-fn any_walk(random: &mut Random, words: &[u16], places: usize, exit: usize, beyond: usize) -> Walk {
+/// A walk for a sheet with so many places and the exit at this one, in shape or out of shape by its budgets less the handler's cost. `beyond`
+/// is 1 where an ended walk may count one more than the budget.
+fn any_walk(random: &mut Random, words: &[u16], handler: u16, places: usize, exit: usize, beyond: usize) -> Walk {
     let number = budget_number(random, words);
-    let budgets = budgets(words);
+    let budgets = lowered_budgets(words, handler);
     let chosen = (number as usize).checked_sub(1).and_then(|index| budgets.get(index));
     // For a number outside the sheet a count that some budget allows.
     let budget = chosen.copied().unwrap_or_else(|| largest(&budgets)).min(65535);
@@ -65,16 +65,16 @@ fn any_walk(random: &mut Random, words: &[u16], places: usize, exit: usize, beyo
     }
 }
 
-/// A walk for a guarded move on this sheet.
-pub fn graph_walk(random: &mut Random, words: &[u16]) -> Walk {
-    any_walk(random, words, sizes(words).0, 2, 0)
+/// A walk for a guarded move on this sheet with a handler of this cost.
+pub fn graph_walk(random: &mut Random, words: &[u16], handler: u16) -> Walk {
+    any_walk(random, words, handler, sizes(words).0, 2, 0)
 }
 
-/// A walk for a bounded move on this sheet.
+/// A walk for a bounded move on this sheet, which carries its budgets as they are.
 pub fn bounded_walk(random: &mut Random, words: &[u16]) -> Walk {
     let (copies, copies_at) = (sizes(words).0, Layout::of(words).copies_at());
     let exit = (1..=copies.min(8)).find(|copy| get(words, copies_at + 3 * (copy - 1)) == 2).unwrap_or(2);
-    any_walk(random, words, copies, exit, 1)
+    any_walk(random, words, 0, copies, exit, 1)
 }
 
 /// A choice at a place with so many successors: mostly one of them.
@@ -101,10 +101,10 @@ pub fn bounded_choice(random: &mut Random, words: &[u16], walk: Walk) -> u32 {
     any_choice(random, part.len() / 2)
 }
 
-/// A list of choices for an accepted graph sheet and a budget number of it; empty for a refused one.
-pub fn choices(random: &mut Random, words: &[u16], number: u32) -> Vec<u32> {
+/// A list of choices for an accepted graph sheet, a handler of this cost and a budget number of the sheet; empty for a refused one.
+pub fn choices(random: &mut Random, words: &[u16], handler: u16, number: u32) -> Vec<u32> {
     let mut list = Vec::new();
-    let monitor = match Monitor::new(words, number) {
+    let monitor = match Monitor::new(words, handler, number) {
         Ok(monitor) => monitor,
         Err(_) => return list,
     };
@@ -114,7 +114,7 @@ pub fn choices(random: &mut Random, words: &[u16], number: u32) -> Vec<u32> {
     // A careful list avoids being diverted where it can; a steady one has valid choices only.
     let careful = random.chance(35);
     let steady = random.chance(30);
-    let all = largest(&budgets(words)) + 4;
+    let all = largest(&lowered_budgets(words, handler)) + 4;
     let most = if random.chance(15) { all } else { random.between(1, all.min(40)) };
     let mut after_the_end = random.below(4);
     let mut state = monitor.start();
