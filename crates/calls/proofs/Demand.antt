@@ -291,7 +291,8 @@ keeps-demand2 i accepted = subst (Demand2 (i .sheet) (i .handler)) (sym (filled-
 pub keeps-demand3 : KeepsDemand3 byValue
 keeps-demand3 i accepted n p q area room o v ms rooms =
     subst (λ (t : List ℕ). StartsAndKeeps byValue (i .sheet) (i .handler) t n area o v ms) (sym (filled-words i accepted))
-    (from-starts (i .sheet) (i .handler) (buildable i accepted) n p (omega (arith, q, lowered-count (i .handler) (budgetsIn (i .sheet)))) area room o v ms rooms)
+    (from-starts (i .sheet) (i .handler) (buildable i accepted) n p (omega (arith, q, lowered-count (i .handler) (budgetsIn (i .sheet)))) area room
+    o v ms rooms)
 
 pub keeps-from-start : KeepsFromStart byValue
 keeps-from-start i accepted first ms rooms =

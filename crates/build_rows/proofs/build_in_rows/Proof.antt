@@ -80,6 +80,23 @@ returns c =
     fits-not (sheet l) (handler l) (area l) (start l .args .out .now) (front-passes _ _ _ (passes l)) (l .lowered-largest .ensures .0)
     (e .1 .0) (e .0) (c .if1 .taken)
 
+-- behind 9, seen from where the budgets are found, and from where they are lowered
+abbrev found : tie.After-read-budgets → tie.Else1
+found r = r .before .before
+
+module _ (p : tie.After-put-lowered) where
+  abbrev read : tie.After-read-budgets
+  read = p .before .before
+
+  abbrev u : tie.After-weigh-into
+  u = found read .before .before .before .before .before .before .before .before .before
+
+  abbrev l : tie.After-lowered-largest
+  l = largest u
+
+  lowers : AcceptedWith (sheet l) (handler l)
+  lowers = accepts l
+
 is-second-requires : tie.Need-is-second-requires
 is-second-requires c κs = accepts (largest (c .before .before .before .before .before .before .before .before .before)) .sheet .long
 
@@ -88,31 +105,31 @@ read-budgets-requires c κs = accepts (largest (c .before .before .before .befor
 
 put-lowered-requires : tie.Need-put-lowered-requires
 put-lowered-requires c κs =
-    let A = accepts (largest (c .before .before .before .before .before .before .before .before .before .before .before .before)) in
+    let A = accepts (largest (found (c .before) .before .before .before .before .before .before .before .before .before)) in
     ((A .sheet .long, A .sheet .there), few _ _ A)
 
 array-share-prefix-four : tie.Need-array-share-prefix-four
-array-share-prefix-four c = omega (arith, c .before .before .before .before .before .before .before .before .read-budgets .ensures .0 .1, few _ _ (accepts (largest (c .before .before .before .before .before .before .before .before .before .before .before .before .before .before .before .before .before .before .before))))
+array-share-prefix-four c =
+    let p = c .before .before .before .before .before .before in
+    omega (arith, read p .read-budgets .ensures .0 .1, few _ _ (lowers p))
 
 slice-aggregate-build-weighed : tie.Need-slice-aggregate-build-weighed
 slice-aggregate-build-weighed c =
-    let A = accepts (largest (c .before .before .before .before .before .before .before .before .before .before .before .before .before .before .before .before .before .before .before .before)) in
-    sym (length-take-le _ _ (omega (arith, c .before .before .before .before .before .before .before .before .before .read-budgets .ensures .0 .1, few _ _ A, room _ _ A (c .before .before .before .before .before .before .before .put-lowered .ensures))))
+    let p = c .before .before .before .before .before .before .before in
+    sym (length-take-le _ _ (omega (arith, read p .read-budgets .ensures .0 .1, few _ _ (lowers p), room _ _ (lowers p) (p .put-lowered .ensures))))
 
 build-weighed-requires : tie.Need-build-weighed-requires
 build-weighed-requires c κs =
-    let u = c .before .before .before .before .before .before .before .before .before .before .before .before .before .before .before .before .before .before .before .before in
-    let l = largest u in
-    let e = u .weigh-into .ensures in
+    let p = c .before .before .before .before .before .before .before in
+    let e = u p .weigh-into .ensures in
     let D = e .1 .1 in
-    let q = l .lowered-largest .ensures .0 in
-    let P = passes l in
-    let k = start l .pre .1 .1 in
-    let bs = front-budgets _ _ (accepts l) (c .before .before .before .before .before .before .before .before .before .read-budgets .ensures .0 .1) (c .before .before .before .before .before .before .before .put-lowered .ensures) in
-    let C = claims-hold _ _ _ P bs q in (
+    let q = l p .lowered-largest .ensures .0 in
+    let P = passes (l p) in
+    let k = start (l p) .pre .1 .1 in
+    let C = claims-hold _ _ _ P (front-budgets _ _ (lowers p) (read p .read-budgets .ensures .0 .1) (p .put-lowered .ensures)) q in (
       D .flat,
       (
-        (C .0, C .1, something-fits _ _ _ P D q (sym (c .before .before .before .before .before .before .before .before .before .before .before .if1 .left) ∙ e .0)),
+        (C .0, C .1, something-fits _ _ _ P D q (sym (found (read p) .if1 .left) ∙ e .0)),
         (row-table _ _ _ P D q (e .1 .0), ((row-cells _ _ _ P D q (k .0 .0), row-cells _ _ _ P D q (k .0 .1)), k .1)),
       ),
     )
@@ -120,15 +137,15 @@ build-weighed-requires c κs =
 returns-2 : tie.Need-returns-2
 returns-2 c =
     let r = c .before .before .before .before .before .before .build-weighed in
-    let u = c .before .before .before .before .before .before .before .before .before .before .before .before .before .before .before .before .before .before .before .before .before .before .before .before .before .before .before in
-    let l = largest u in
-    let e = u .weigh-into .ensures in
-    let q = l .lowered-largest .ensures .0 in
-    let bs = front-budgets _ _ (accepts l) (c .before .before .before .before .before .before .before .before .before .before .before .before .before .before .before .before .read-budgets .ensures .0 .1) (c .before .before .before .before .before .before .before .before .before .before .before .before .before .before .put-lowered .ensures) in
-    let T = same-task (sheet l) (handler l) (area l) (passes l) (e .1 .1) q bs in
-    let out = start l .args .out .now in
-    let v = c .before .before .before .before .before .before .before .before .before .before .before .before .before .before .before .before .before .is-second .ensures in
-    fits (sheet l) (handler l) (area l) out (front-passes _ _ _ (passes l)) q (e .1 .0) (sym (c .before .before .before .before .before .before .before .before .before .before .before .before .before .before .before .before .before .before .if1 .left) ∙ e .0)
+    let p = c .before .before .before .before .before .before .before .before .before .before .before .before .before .before in
+    let x = l p in
+    let e = u p .weigh-into .ensures in
+    let q = x .lowered-largest .ensures .0 in
+    let bs = front-budgets _ _ (lowers p) (read p .read-budgets .ensures .0 .1) (p .put-lowered .ensures) in
+    let T = same-task (sheet x) (handler x) (area x) (passes x) (e .1 .1) q bs in
+    let out = start x .args .out .now in
+    let v = read p .before .is-second .ensures in
+    fits (sheet x) (handler x) (area x) out (front-passes _ _ _ (passes x)) q (e .1 .0) (sym (found (read p) .if1 .left) ∙ e .0)
     (r .ensures .0 ∙ ap₂ (λ (x : Bool) (t : Task). answerAt x t (length out)) v T)
     (r .ensures .1 ∙ ap₂ (λ (x : Bool) (t : Task). outputAt x t (r .result) out) v T)
 
@@ -136,6 +153,6 @@ pub build-in-rows-spec : {M : Type 1} → statement M
 build-in-rows-spec =
     tie.close
     (tie.spec lowered-largest-requires weigh-into-requires (λ c. search needs) (λ c. search needs) (λ c. search needs) (λ c. search needs)
-    returns is-second-requires read-budgets-requires (λ c. search needs) put-lowered-requires array-share-prefix-four slice-aggregate-build-weighed
-    build-weighed-requires (λ c. search needs) (λ c. search needs) (λ c. search needs) (λ c. search needs) (λ c. search needs)
-    (λ c. search needs) (λ c. search needs) returns-2)
+    returns is-second-requires read-budgets-requires (λ c. search needs) put-lowered-requires array-share-prefix-four
+    slice-aggregate-build-weighed build-weighed-requires (λ c. search needs) (λ c. search needs) (λ c. search needs) (λ c. search needs)
+    (λ c. search needs) (λ c. search needs) (λ c. search needs) returns-2)
