@@ -8,7 +8,6 @@ ghost use Rattle.calls.specs.SheetGraph.{task};
 ghost use Rattle.calls.specs.Weigh.{taskArea};
 ghost use Rattle.calls.specs.Starts.{guardedStart};
 ghost use Rattle.walk.specs.Walks.{walkOf};
-use graph_row::ROW_WORDS;
 use headers::read_budgets;
 use look::look_up;
 use lowered::lowered_budget;
@@ -17,10 +16,8 @@ use walk::Moved;
 use walk::Walk;
 use walk::set_out;
 use walk::stop;
-use weigh_sheet::BLOCK_MASKS;
-use weigh_sheet::COST_MASKS;
 use weigh_sheet::front;
-use weigh_sheet::weigh_into;
+use weigh_sheet::weigh_passed;
 use words::is_outside;
 
 // "a budget number outside the sheet is 33"
@@ -29,7 +26,7 @@ const NO_BUDGET: u16 = 33;
 // A walk sets out from block 1.
 const START_BLOCK: usize = 1;
 
-// A start on a sheet that passes 1 to 8, 41 and 43, with area enough: it is decoded and weighed into the area, 9, the budget's number is
+// A start on a sheet that passes 1 to 8, 41 and 43, with area enough: it is weighed into the area, 9, the budget's number is
 // checked, and block 1 is looked up at the budget. The budgets are lowered by the handler's cost h, and the area is laid out for the largest one.
 fn begin(s: &[u16], h: u16, area: &mut [u8], w: Walk, budget: u16) -> Moved
     requires { ⌜ (handledRefusal (now s) h ≡ 0) × (taskArea (task (now s) h) ≤ length (now area)) ⌝ }
@@ -41,10 +38,7 @@ fn begin(s: &[u16], h: u16, area: &mut [u8], w: Walk, budget: u16) -> Moved
         ≡ guardedStart (now (s .entry)) h (walkOf w) (record { number = budget; area = now (area .entry) }) .area ⌝ }
 {
     let l = lowered_largest(s, h);
-    let mut row = [0u16; ROW_WORDS];
-    let mut nexts = [0u64; BLOCK_MASKS];
-    let mut has = [0u64; COST_MASKS];
-    let a = weigh_into(s, &mut row, &mut nexts, &mut has, area, l);
+    let a = weigh_passed(s, area, l);
     if a != 0 {
         return Moved { answer: a, walk: w };
     }

@@ -78,8 +78,8 @@ pub fn weigh_into(
     0
 }
 
-// The same with rows for any graph.
-fn weigh_passed(s: &[u16], area: &mut [u8], b: usize) -> u16
+// The same with rows for any graph, which are local.
+pub fn weigh_passed(s: &[u16], area: &mut [u8], b: usize) -> u16
     requires { ⌜ (sheetRefusal (now s) ≡ 0) × (b ≤ mostBudget) × (areaSize (header (now s) .blocks) b ≤ length (now area)) ⌝ }
     ensures { λ a. ⌜ a ≡ fitAnswer (graph (now (s .entry))) b ⌝ }
     ensures { λ _. ⌜ now (area .exit) ≡ filled (graph (now (s .entry))) (header (now (s .entry)) .blocks) b (now (area .entry)) ⌝ }

@@ -14,44 +14,43 @@ use Rattle.formats.proofs.Handler.{accepted-with}
 use Rattle.calls.specs.SheetGraph.{graph, task}
 use Rattle.calls.specs.Area.{Table}
 use Rattle.weigh_sheet.proofs.Answers.{Weighs}
-use Rattle.weigh_sheet.proofs.Into.{leaves, serve, weighs-into}
+use Rattle.weigh_sheet.proofs.Into.{leaves, weighs-into}
 use Rattle.walk.specs.Walks.{walkOf}
 use Rattle.guarded_moves.proofs.Weighed.{sheet-table, number-is, counted, within}
 use Rattle.guarded_starts.proofs.Answers.{start-cell, start-low, weigh-refused, number-refused, stops, goes}
 use Rattle.guarded_starts.proofs.begin.Statement.{statement}
 use Rattle.guarded_starts.proofs.begin.Tie as tie
 
-weigh-into-requires : tie.Need-weigh-into-requires
-weigh-into-requires c κs =
-    let u = c .before .before .before .before in
+weigh-passed-requires : tie.Need-weigh-passed-requires
+weigh-passed-requires c κs =
+    let u = c .before in
     let z = u .before .before .before in
-    let q = u .lowered-largest .ensures .0 in
-    (leaves _ _ (z .args .area .now) (z .pre) q, serve _ _ (z .args .area .now) (z .pre) q)
+    leaves _ _ (z .args .area .now) (z .pre) (u .lowered-largest .ensures .0)
 
 -- the area is filled, and 9 was tested
-module _ (c : tie.After-weigh-into) where
+module _ (c : tie.After-weigh-passed) where
   abbrev large : tie.After-lowered-largest
-  large = c .before .before .before .before .before
+  large = c .before .before
 
   abbrev start : tie.Start
   start = large .before .before .before
 
-  weighs : Weighs (start .args .s .now) (start .args .h) (start .args .area .now) (c .weigh-into .result) (c .weigh-into .last .1 .1 .1 .1 .0)
-  weighs = let e = c .weigh-into .ensures in weighs-into _ _ _ (start .pre) (large .lowered-largest .ensures .0) (e .0) (e .1 .0)
+  weighs : Weighs (start .args .s .now) (start .args .h) (start .args .area .now) (c .weigh-passed .result) (c .weigh-passed .last .1 .0)
+  weighs = let e = c .weigh-passed .ensures in weighs-into _ _ _ (start .pre) (large .lowered-largest .ensures .0) (e .0) (e .1)
 
 returns : tie.Need-returns
 returns c =
-    let u = c .before .before .before .before .before .before in
+    let u = c .before .before .before in
     let a = start u .args in
     weigh-refused (a .s .now) (a .h) (a .area .now) (walkOf (a .w)) (a .budget) (weighs u) (c .if1 .taken)
 
 read-budgets-requires : tie.Need-read-budgets-requires
-read-budgets-requires c κs = accepted-with _ _ (start (c .before .before .before .before .before .before) .pre .0) .sheet .long
+read-budgets-requires c κs = accepted-with _ _ (start (c .before .before .before) .pre .0) .sheet .long
 
 -- the budget's number was tested
 module _ (c : tie.After-is-outside) where
-  abbrev at : tie.After-weigh-into
-  at = c .before .before .before .before .before .before .before .before
+  abbrev at : tie.After-weigh-passed
+  at = c .before .before .before .before .before
 
   abbrev first : tie.Start
   first = start at
@@ -64,7 +63,7 @@ returns-2 c =
     let u = c .before in
     let a = first u .args in
     number-refused (a .s .now) (a .h) (a .area .now) (walkOf (a .w)) (a .budget) (weighs (at u)) (u .before .before .if1 .left)
-    (large (at u) .lowered-largest .ensures .0) (at u .weigh-into .ensures .1 .0) (tested u (c .if2 .taken))
+    (large (at u) .lowered-largest .ensures .0) (at u .weigh-passed .ensures .1) (tested u (c .if2 .taken))
 
 lowered-budget-requires : tie.Need-lowered-budget-requires
 lowered-budget-requires c κs =
@@ -80,7 +79,7 @@ module _ (c : tie.After-lowered-budget) where
   abbrev number : tie.After-is-outside
   number = c .before .before
 
-  abbrev weighed : tie.After-weigh-into
+  abbrev weighed : tie.After-weigh-passed
   weighed = at number
 
   fits : (c .lowered-budget .result ≤ large weighed .lowered-largest .result) × (large weighed .lowered-largest .result ≤ mostBudget)
@@ -89,10 +88,10 @@ module _ (c : tie.After-lowered-budget) where
       (c .lowered-budget .ensures .0) (large weighed .lowered-largest .ensures .0)
 
   table : Table (graph (first number .args .s .now)) (header (first number .args .s .now) .blocks) (large weighed .lowered-largest .result)
-      (weighed .weigh-into .last .1 .1 .1 .1 .0)
+      (weighed .weigh-passed .last .1 .0)
   table =
       sheet-table _ _ _ (weighs weighed) (number .before .before .if1 .left) (large weighed .lowered-largest .ensures .0)
-      (weighed .weigh-into .ensures .1 .0)
+      (weighed .weigh-passed .ensures .1)
 
 look-up-requires : tie.Need-look-up-requires
 look-up-requires c κs = let l = c .before in start-cell _ _ (first (number l) .pre .0) (table l) (fits l)
@@ -115,7 +114,7 @@ returns-3 c =
     let n = u l in
     let a = first n .args in
     stops (a .s .now) (a .h) (a .area .now) (walkOf (a .w)) (a .budget) (weighs (at n)) (n .before .before .if1 .left)
-    (large (at n) .lowered-largest .ensures .0) (at n .weigh-into .ensures .1 .0)
+    (large (at n) .lowered-largest .ensures .0) (at n .weigh-passed .ensures .1)
     (tested n (budget l .before .if2 .left)) _ (looked l) (c .before .if3 .taken) (c .stop .ensures)
 
 returns-4 : tie.Need-returns-4
@@ -124,12 +123,12 @@ returns-4 c =
     let n = u l in
     let a = first n .args in
     goes (a .s .now) (a .h) (a .area .now) (walkOf (a .w)) (a .budget) (weighs (at n)) (n .before .before .if1 .left)
-    (large (at n) .lowered-largest .ensures .0) (at n .weigh-into .ensures .1 .0)
+    (large (at n) .lowered-largest .ensures .0) (at n .weigh-passed .ensures .1)
     (tested n (budget l .before .if2 .left)) _ (looked l) (c .before .if3 .left) (c .set-out .ensures)
 
 pub begin-spec : {M : Type 1} → statement M
 begin-spec =
     tie.close
-    (tie.spec lowered-largest-requires (λ c. search needs) (λ c. search needs) (λ c. search needs) weigh-into-requires (λ c. search needs)
-    returns read-budgets-requires (λ c κs. search needs) (λ c. search needs) returns-2 lowered-budget-requires look-up-requires
-    (λ c κs. search needs) (λ c. search needs) returns-3 (λ c κs. search needs) (λ c. search needs) returns-4)
+    (tie.spec lowered-largest-requires weigh-passed-requires (λ c. search needs) returns read-budgets-requires (λ c κs. search needs)
+    (λ c. search needs) returns-2 lowered-budget-requires look-up-requires (λ c κs. search needs) (λ c. search needs) returns-3
+    (λ c κs. search needs) (λ c. search needs) returns-4)
