@@ -1,5 +1,5 @@
 -- Lowered budgets by their places, and as the front of a row.
--- Rests on base Numbers, formats Handler, put_words Put.
+-- Rests on formats Handler, put_words Put.
 use mathlib.Core.Path.{_≡_, refl, sym, ap, _∙_}
 use mathlib.Core.List.{List, _++_}
 use Prim.Native.Nat.{ℕ, suc, _+_, _-_, _<_}
