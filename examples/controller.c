@@ -2,7 +2,7 @@
  * budgets, number 1 unless -b names another, and follows the choices given as arguments. -h names the cost of the exception handler in
  * cycles, 0 unless it is named. Options stand before the choices, in either order, each once at most.
  *
- *   rt staticlib gilstavo
+ *   tests/library build
  *   gcc -std=c99 -Wall -Wextra -Iinclude examples/controller.c target/staticlib/libgilstavo.a -o target/controller
  *   target/controller 1 2 1 1 1 < crates/listing/stdin
  *   target/controller -b 2 1 2 1 1 1 < two_budgets.sheet

@@ -1,6 +1,6 @@
 /* The public calls of libgilstavo.a: from a claimed budget to a loadable graph.
  *
- * `rt staticlib gilstavo` writes target/staticlib/libgilstavo.a (x86-64, System V calling convention).
+ * `tests/library build` writes target/staticlib/libgilstavo.a (x86-64, System V calling convention).
  *
  * A sheet is a row of 16-bit words; records are numbered from 1, and 0 ends a chain (docs/FORMATS.md has an example of each). Sheets have
  * two versions: in the first a sheet has one budget, in the second, whose first word is 0, 1 to 4 of them (k), strictly rising, each at

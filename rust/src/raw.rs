@@ -1,5 +1,5 @@
 // The exported functions as the static library has them: a slice is a pointer and a length, a walk four words.
-// It rests on target/staticlib/libgilstavo.a; nothing checks these declarations against crates/gilstavo/src/lib.rt.
+// It rests on target/staticlib/libgilstavo.a; nothing checks these declarations against crates/gilstavo_c/src/lib.rt.
 //
 // Why each call is safe: every exported function takes any content and any length of its slices (it has no `requires`), reads and
 // writes within them only, and keeps no pointer. The borrows below give pointers that are valid, aligned and not shared.

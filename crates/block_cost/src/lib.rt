@@ -1,5 +1,7 @@
 // One block's cost, set in the work area and in the mask of the cost; the exit's cost 0 first. Below the public calls.
 // Rests on graph_row, cells and masks. A block has a cost where some successor has it less the block's own, which is one test of two masks.
+#![tactic(auto)]
+
 ghost use Rattle.std.specs.Prelude.{◌≡◌, ◌≢◌, true, ℕ, ◌+◌, ◌*◌, ◌≤◌, length};
 ghost use mathlib.Core.List.{Memᴰ};
 ghost use Rattle.theory.specs.Completions.{completes};

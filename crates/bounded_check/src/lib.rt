@@ -1,5 +1,7 @@
 // A public call on a bounded sheet of either version: rule 11, each word of the sheet looked at a few times at most.
 // Rests on words, headers, budgets, record_check, entry_check; the promise is an equation with formats Rule11.
+#![tactic(auto)]
+
 ghost use Rattle.std.specs.Prelude.{◌≡◌, false, ◌||◌, ◌+◌, ◌*◌, ◌≤◌, ◌<◌, length};
 ghost use Rattle.base.specs.Lists.{from};
 ghost use Rattle.base.specs.Checks.{outside};

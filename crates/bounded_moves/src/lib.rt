@@ -1,5 +1,7 @@
 // A public call: a bounded move on a bounded sheet, with the walk by value.
 // Rests on words, headers, chains, bounded_check, walk; the promise is calls Moves.
+#![tactic(auto)]
+
 ghost use Rattle.std.specs.Prelude.{◌≡◌, suc, ◌≤◌};
 ghost use Rattle.base.specs.Lists.{chosen, option_of, nth};
 ghost use Rattle.theory.specs.Machines.{reply};

@@ -1,5 +1,7 @@
 // A public call: the start of a walk on a bounded sheet with a chosen budget, with the walk by value.
 // Rests on headers, bounded_check, walk; the promise is calls Starts.
+#![tactic(auto)]
+
 ghost use Rattle.std.specs.Prelude.{◌≡◌};
 ghost use Rattle.calls.specs.Starts.{bounded_start};
 ghost use Rattle.walk.specs.Walks.{walk_of};

@@ -1,5 +1,7 @@
 // Conditions 4 and 41, on the budgets that both kinds of sheet name in their header, and 43, on a graph sheet's. Below the public calls.
 // Rests on words, headers; the promises are equations with formats Versions and GraphSheet.
+#![tactic(auto)]
+
 ghost use Rattle.std.specs.Prelude.{◌≡◌, not, ◌+◌, ◌≤◌, ltb, length};
 ghost use Rattle.base.specs.Lists.{any, rising};
 ghost use Rattle.base.specs.Checks.{refused};

@@ -1,5 +1,7 @@
 // THE BUILD, a public call: from a graph sheet and the handler's cost to its bounded sheet in the output row, with the completion table in the
 // work area. Rests on lowered, weigh_sheet and build_rows. The rows of a build are local here, once, as large as the sheet asks; the calls below lend them on.
+#![tactic(auto)]
+
 ghost use Rattle.std.specs.Prelude.{◌≡◌, true, ◌≤◌, length};
 ghost use Rattle.formats.specs.Limits.{least_words};
 ghost use Rattle.calls.specs.Build.{built};

@@ -1,5 +1,7 @@
 // THE BUILD IN ROWS THAT ARE LENT: a weighed sheet's copies, their numbers and the words of its bounded sheet. Below the public calls.
 // Rests on lowered, weigh_sheet, look, descend, number, output.
+#![tactic(auto)]
+
 ghost use Rattle.std.specs.Prelude.{◌≡◌, false, suc, ◌-◌, ◌≤◌, ◌<◌, length};
 ghost use Rattle.base.specs.Cells.{cell_count};
 ghost use Rattle.base.specs.Lists.{is_none, last_of};

@@ -1,5 +1,7 @@
 // One byte of a text, read into a row of bytes.
 // Rests on text_form, word_bytes and word_reading.
+#![tactic(auto)]
+
 ghost use Rattle.std.specs.Prelude.{◌≡◌};
 ghost use Rattle.text_form.specs.Reading.{line_byte, text_byte, step};
 ghost use Rattle.word_reading.specs.Held.{Able, Turns};

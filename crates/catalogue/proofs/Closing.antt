@@ -1,11 +1,10 @@
 -- The closing parts, by what a tally and the marks stand for.
 -- Rests on base Lists, formats Limits and Report, tally Tallies, specs Standing and Parts.
-use mathlib.Core.Path.{◌≡◌, refl, sym, ap, ◌∙◌}
+use mathlib.Core.Path.{◌≡◌, ap, ◌∙◌}
 use mathlib.Core.List.{List}
-use mathlib.Core.Option.{some}
 use Prim.Native.Nat.{ℕ, suc, ◌+◌, ◌-◌, ◌*◌, ◌<◌}
 use native.Mathlib.Omega.{arith}
-use lib.ListN.{length, take, drop}
+use lib.ListN.{take, drop}
 use Rattle.base.specs.Lists.{each}
 use Rattle.base.proofs.Lists.{chosen-some}
 use Rattle.formats.specs.Limits.{most_blocks}

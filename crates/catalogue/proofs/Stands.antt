@@ -1,10 +1,10 @@
 -- What a tally and the marks stand for with one sheet more, from what is said of it; and with no sheet.
 -- Rests on formats Limits and Report, digits Due, tally Tallies, sheet_figures Says, figures Reports, specs Standing, Marks, More.
-use mathlib.Core.Path.{◌≡◌, refl, sym, ap, subst, ◌∙◌}
+use mathlib.Core.Path.{◌≡◌, refl, sym, ap, ◌∙◌}
 use mathlib.Core.Logic.{◌⊎◌, inl, inr}
 use mathlib.Core.Bool.{Bool, ◌&&◌, not}
 use mathlib.Core.List.{List, [], ◌∷◌, ◌++◌}
-use mathlib.Core.Option.{Option, some, none, none-ne-some}
+use mathlib.Core.Option.{Option, some, none-ne-some}
 use Prim.Native.Nat.{ℕ, suc, ◌+◌, ◌*◌, ◌≤◌, ◌<◌}
 use native.Mathlib.Omega.{arith}
 use lib.Dec.{ltb}
@@ -20,7 +20,6 @@ use Rattle.tally.specs.Tallies.{sums_of, most_from, figured, Tallied}
 use Rattle.sheet_figures.specs.declared.Reported.{Reported}
 use Rattle.sheet_figures.specs.Says.{Says}
 use Rattle.figures.specs.Reports.{Reports}
-use Rattle.catalogue.specs.declared.Step.{Step}
 use Rattle.catalogue.specs.Standing.{marks_of, Standing, Front, beyond, whole, Next}
 use Rattle.catalogue.proofs.Marks.{own-marks, other-marks}
 use Rattle.catalogue.proofs.More.{sums-more, most-more, chosen_more}

@@ -1,5 +1,7 @@
 // A catalogue's report, sheet by sheet: the line of each, and then the closing parts. Below stream, which puts them together.
 // Rests on figures, tally, report_lines, unused_lines; lines and parts in order are the report (proofs Whole).
+#![tactic(auto)]
+
 ghost use Rattle.std.specs.Prelude.{◌≡◌, ◌&&◌, not, List, ◌+◌, ◌≤◌, ◌<◌, ltb, length};
 ghost use Rattle.formats.specs.Limits.{most_sheets};
 ghost use Rattle.formats.specs.Report.{Figures};

@@ -1,5 +1,7 @@
 // The cells of the work area: the only functions that touch it. Below the public calls.
 // Rests on nothing; the contracts cite calls Area, "which costs an area stands for".
+#![tactic(auto)]
+
 ghost use Rattle.std.specs.Prelude.{◌≡◌, ◌≤◌, length};
 ghost use Rattle.base.specs.Cells.{cell_of, is_set};
 ghost use Rattle.calls.specs.Area.{area_size, HasCell, stands, with_cell, cleared};

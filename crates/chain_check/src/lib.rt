@@ -1,5 +1,7 @@
 // The chains of all numbers 1 to n, whose first records stand in a table of two words each: followed one after the other, with one row of marks.
 // Rests on words, chains; the promise is an equation with formats Words `unsound`. Below the public calls.
+#![tactic(auto)]
+
 ghost use Rattle.std.specs.Prelude.{◌≡◌, suc, ◌+◌, ◌*◌, ◌≤◌, ◌<◌, length, replicate};
 ghost use Rattle.base.specs.Lists.{each, from};
 ghost use Rattle.formats.specs.Words.{field as field_at, edges_from, unsound};

@@ -1,5 +1,7 @@
 // The edge records of one copy of the bounded sheet. Below the public calls.
 // Rests on graph_row, number, put_words.
+#![tactic(auto)]
+
 ghost use Rattle.std.specs.Prelude.{◌≡◌, List, ℕ, ◌+◌, ◌-◌, ◌*◌, ◌<◌, ◌≤◌, length};
 ghost use Rattle.base.specs.Copy.{copy_of};
 ghost use Rattle.theory.specs.Completions.{low_of};

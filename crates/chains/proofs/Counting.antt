@@ -2,7 +2,7 @@
 -- Rests on formats Chains.
 use mathlib.Core.Path.{◌≡◌}
 use mathlib.Core.Logic.{◌⊎◌, ⊎_elim}
-use Prim.Native.Nat.{ℕ, suc, ◌+◌, ◌-◌, ◌≤◌, ◌<◌}
+use Prim.Native.Nat.{ℕ, ◌+◌, ◌-◌, ◌≤◌, ◌<◌}
 use native.Mathlib.Omega.{arith}
 use Rattle.formats.specs.Words.{chain_length, Inside}
 use Rattle.formats.proofs.Chains.{follow-end, follow-out, length-end, length_more, inside-next}

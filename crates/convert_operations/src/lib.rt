@@ -1,5 +1,7 @@
 // A public call on an operation sheet: the graph sheet that it says, put into a lent row. Each record is visited once for the sums.
 // Rests on words, headers, put_words, operation_sheet, operation_check; the promise is an equation with operation_sheet Operations `convert`.
+#![tactic(auto)]
+
 ghost use Rattle.std.specs.Prelude.{◌≡◌, ◌≤◌, length};
 ghost use Rattle.formats.specs.GraphSheet.{header_of, sheet_length};
 ghost use Rattle.operation_sheet.specs.Operations.{cycle_sum, block_words, graph_words, convert, Listed, most_cycles};

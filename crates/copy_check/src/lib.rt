@@ -1,5 +1,7 @@
 // One copy of a bounded sheet, by its numbers: wrong by itself or behind the copy before it.
 // Rests on words; what is wrong with a copy is said by specs BadCopy.
+#![tactic(auto)]
+
 ghost use Rattle.std.specs.Prelude.{◌≡◌};
 ghost use Rattle.base.specs.Copy.{copy_of, before};
 ghost use Rattle.copy_check.specs.BadCopy.{bad_copy};

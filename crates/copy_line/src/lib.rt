@@ -1,5 +1,7 @@
 // The line of one copy of a listing, written into a lent row of bytes: the copy's number, block, low and targets.
 // Rests on words and digits; the promises say the whole row, by digits Wrote and specs Line.
+#![tactic(auto)]
+
 ghost use Rattle.std.specs.Prelude.{suc, ◌+◌, ◌*◌, ◌≤◌, length};
 ghost use Rattle.formats.specs.Words.{Inside, next_from};
 ghost use Rattle.digits.specs.Wrote.{Wrote};

@@ -1,2 +1,2 @@
--- the length of a part: part-count
+-- the length of a part: part_count
 pub mod Parts

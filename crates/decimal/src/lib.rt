@@ -1,5 +1,7 @@
 // A row of words written as lines of decimal words.
 // Rests on words, headers, digits; the promises say the whole row, by digits Wrote and specs Writing.
+#![tactic(auto)]
+
 ghost use Rattle.std.specs.Prelude.{◌≡◌, map, ◌+◌, ◌*◌, ◌≤◌, length, replicate};
 ghost use Rattle.formats.specs.Listing.{decimal, line};
 ghost use Rattle.digits.specs.Wrote.{Wrote};

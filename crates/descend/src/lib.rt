@@ -1,5 +1,7 @@
 // The descent over the copies: a copy hands on to its chain, the chain to each copy it names; no copy is descended into twice.
 // Rests on graph_row, tables. The calls are at most two deep for each cycle of the budget. Below the public calls.
+#![tactic(auto)]
+
 ghost use Rattle.std.specs.Prelude.{◌≡◌, false, suc, ◌-◌, ◌≤◌, ◌<◌, length};
 ghost use Rattle.base.specs.Cells.{cell_count};
 ghost use Rattle.base.specs.Lists.{option_of, is_none, last_of};

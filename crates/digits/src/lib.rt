@@ -1,5 +1,7 @@
 // Bytes and decimal numbers, written into a lent row of bytes.
 // Rests on words; numbers are written by formats Listing.
+#![tactic(auto)]
+
 ghost use Rattle.std.specs.Prelude.{[], ◌∷◌, ◌++◌, ◌+◌, ◌<◌, ◌≤◌, length};
 ghost use Rattle.base.specs.Lists.{each};
 ghost use Rattle.formats.specs.Listing.{decimal};

@@ -1,5 +1,7 @@
 // Conditions 6 and 7 of a graph sheet whose records are there: the targets of its edges, and its chains.
 // Rests on words, chain_check; the promises are equations with formats GraphSheet.
+#![tactic(auto)]
+
 ghost use Rattle.std.specs.Prelude.{◌≡◌};
 ghost use Rattle.formats.specs.GraphSheet.{header_of, bad_targets, bad_chains, Recorded};
 

@@ -1,5 +1,7 @@
 // The entries of a bounded sheet, behind any header: c copies and f edges from the word `at` on, the largest budget b, the budgets and an
 // entry for each. Rests on words; the promise is an equation with specs Entries, over formats Rule11.
+#![tactic(auto)]
+
 ghost use Rattle.std.specs.Prelude.{◌≡◌, not, ◌≤◌, length};
 ghost use Rattle.base.specs.Lists.{any, from, member};
 ghost use Rattle.formats.specs.Limits.{most_copies};

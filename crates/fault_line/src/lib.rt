@@ -1,5 +1,7 @@
 // The line that tells a fault of a text: its line, its column and what stood there.
 // Rests on digits and text_form.
+#![tactic(auto)]
+
 ghost use Rattle.std.specs.Prelude.{◌≡◌, ◌+◌, ◌<◌, ◌≤◌, length};
 ghost use Rattle.digits.specs.Wrote.{Wrote};
 ghost use Rattle.text_form.specs.Reading.{most_count};

@@ -1,5 +1,7 @@
 // What a report says of one sheet of a catalogue: its figures, its line, and the blocks that no kept path enters.
 // Rests on file_words, build, front, sheet_figures; the promise is an equation with calls Report `figures`.
+#![tactic(auto)]
+
 ghost use Rattle.std.specs.Prelude.{◌≡◌, ◌≤◌, ◌<◌, length};
 ghost use Rattle.std.proofs.Math.Option.{some};
 ghost use Rattle.formats.specs.Limits.{most_blocks, most_cells};

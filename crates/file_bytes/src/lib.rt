@@ -1,5 +1,7 @@
 // Words as a file's bytes, written into a lent row: "In a file each word is two bytes, lower byte first".
 // Rests on words and digits; the definitions are formats File.
+#![tactic(auto)]
+
 ghost use Rattle.std.specs.Prelude.{◌+◌, ◌<◌, ◌≤◌, length};
 ghost use Rattle.formats.specs.Limits.{word_limit};
 ghost use Rattle.formats.specs.File.{word_bytes, bytes_of};

@@ -1,5 +1,7 @@
 // A file's bytes as words: "In a file each word is two bytes, lower byte first".
 // Rests on words; the definitions are formats File.
+#![tactic(auto)]
+
 ghost use Rattle.std.specs.Prelude.{◌≡◌, ◌++◌, ◌+◌, ◌*◌, ◌/◌, ◌≤◌, length, drop};
 ghost use Rattle.formats.specs.File.{words_of};
 

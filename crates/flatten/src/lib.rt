@@ -1,5 +1,7 @@
 // THE DECODER: a graph sheet that passes its checks becomes a flat row, once. No other code behind the checks knows a graph's chains.
 // Rests on words, chains; what a decoded row holds is specs Decoded.
+#![tactic(auto)]
+
 ghost use Rattle.std.specs.Prelude.{◌≡◌, ◌+◌, ◌-◌, ◌*◌, ◌≤◌, ◌<◌, length, set};
 ghost use Rattle.formats.specs.Limits.{most_blocks, word_limit};
 ghost use Rattle.formats.specs.GraphSheet.{header_of, Sound};

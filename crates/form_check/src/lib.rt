@@ -1,5 +1,7 @@
 // Conditions 2 to 4 and 41 of a graph sheet, by its length and its header alone.
 // Rests on words, budgets; the promise is an equation with formats GraphSheet.
+#![tactic(auto)]
+
 ghost use Rattle.std.specs.Prelude.{◌≡◌, ◌||◌, ◌++◌, ◌+◌, ◌≤◌, ◌<◌, length};
 ghost use Rattle.base.specs.Checks.{refused, outside};
 ghost use Rattle.formats.specs.Limits.{least_words, word_limit, least_blocks, most_blocks, least_edges, most_edges};

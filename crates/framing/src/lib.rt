@@ -1,5 +1,7 @@
 // The sheets of a catalogue, each behind its length, as their bytes come: a byte more, and the line of the sheet that it makes whole.
 // Rests on catalogue, kept and file_words; what the state and the rows stand for is specs Came. Below stream and the report program.
+#![tactic(auto)]
+
 ghost use Rattle.std.specs.Prelude.{◌≡◌, true, List, [], ℕ, ◌*◌, ◌≤◌, ◌<◌, length};
 ghost use Rattle.formats.specs.Limits.{most_blocks, most_sheets};
 ghost use Rattle.file_words.specs.Longer.{longer_file};

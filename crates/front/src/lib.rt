@@ -1,5 +1,7 @@
 // The bounded sheet with which a row begins, and the room that any takes; below the public calls.
 // Rests on words, headers; the definitions are formats BoundedSheet.
+#![tactic(auto)]
+
 ghost use Rattle.std.specs.Prelude.{◌≡◌, ◌≤◌, length};
 ghost use Rattle.formats.specs.BoundedSheet.{heading, bounded_length};
 ghost use Rattle.front.specs.Front.{front_sheet};

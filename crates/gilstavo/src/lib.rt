@@ -1,7 +1,9 @@
-// The public calls on numbers and slices, for C and Rust: a slice crosses as a pointer and a length, a walk as a row of four
-// words; `handler` is the handler's cost.
+// The public calls on numbers and slices, as gilstavo_c exports them for C and Rust: a walk is a row of four words; `handler` is the
+// handler's cost.
 // Rests on graph_check, convert_operations, successors, weigh_sheet, build, bounded_check, reader, walk_words, both starts and both moves; the
 // promises are theirs, and Steps for walks.
+#![tactic(auto)]
+
 ghost use Rattle.std.specs.Prelude.{◌≡◌};
 ghost use Rattle.formats.specs.GraphSheet.{sheet_refusal, count_successors};
 ghost use Rattle.formats.specs.Rule11.{bounded_refusal, hand_out};
@@ -30,16 +32,14 @@ use walk_words::{put_walk, walk_of};
 use weigh_sheet::weigh_sheet;
 
 // 1 to 4, 41, 5 to 8, else 0.
-#[unsafe(no_mangle)]
-pub extern "C" fn gilstavo_check_graph(sheet: &[u16]) -> u16
+pub fn gilstavo_check_graph(sheet: &[u16]) -> u16
     ensures { result ≡ sheet_refusal sheet.now }
 {
     check_graph(sheet)
 }
 
 // 1 to 4, 41, 6 to 8, 42, 22, else 0; the graph sheet of an operation sheet in the first words of the output row.
-#[unsafe(no_mangle)]
-pub extern "C" fn gilstavo_convert_operations(sheet: &[u16], output: &mut [u16]) -> u16
+pub fn gilstavo_convert_operations(sheet: &[u16], output: &mut [u16]) -> u16
     ensures value { result ≡ (convert sheet.now output.old).answer }
     ensures output_after { output.new ≡ (convert sheet.now output.old).output }
 {
@@ -47,8 +47,7 @@ pub extern "C" fn gilstavo_convert_operations(sheet: &[u16], output: &mut [u16])
 }
 
 // 1 to 4, 41, 5 to 8, 33, else 0; the number of successors of a block.
-#[unsafe(no_mangle)]
-pub extern "C" fn gilstavo_count_successors(sheet: &[u16], block: u16, count: &mut u16) -> u16
+pub fn gilstavo_count_successors(sheet: &[u16], block: u16, count: &mut u16) -> u16
     ensures value { result ≡ (count_successors sheet.now block).answer }
     ensures count_after { count.new ≡ lent_after result count.old (count_successors sheet.now block).count }
 {
@@ -61,8 +60,7 @@ pub extern "C" fn gilstavo_count_successors(sheet: &[u16], block: u16, count: &m
 }
 
 // 1 to 4, 41, 43, 5 to 8, 21, 9, else 0; the completion table in the work area.
-#[unsafe(no_mangle)]
-pub extern "C" fn gilstavo_weigh(sheet: &[u16], handler: u16, area: &mut [u8]) -> u16
+pub fn gilstavo_weigh(sheet: &[u16], handler: u16, area: &mut [u8]) -> u16
     ensures value { result ≡ (weighed (record { sheet = sheet.entry.now; handler = handler; area = area.old })).answer }
     ensures area_after { area.new ≡ (weighed (record { sheet = sheet.entry.now; handler = handler; area = area.old })).area }
 {
@@ -70,13 +68,7 @@ pub extern "C" fn gilstavo_weigh(sheet: &[u16], handler: u16, area: &mut [u8]) -
 }
 
 // 1 to 4, 41, 43, 5 to 8, 21, 9, 10, 22, else 0; the bounded sheet in the first words of the output row.
-#[unsafe(no_mangle)]
-pub extern "C" fn gilstavo_build(
-    sheet: &[u16],
-    handler: u16,
-    area: &mut [u8],
-    output: &mut [u16],
-) -> u16
+pub fn gilstavo_build(sheet: &[u16], handler: u16, area: &mut [u8], output: &mut [u16]) -> u16
     ensures value { result ≡ (built sheet.now handler area.old output.old).answer }
     ensures area_after { area.new ≡ (built sheet.now handler area.old output.old).area }
     ensures output_after { output.new ≡ (built sheet.now handler area.old output.old).output }
@@ -85,21 +77,14 @@ pub extern "C" fn gilstavo_build(
 }
 
 // 11, else 0.
-#[unsafe(no_mangle)]
-pub extern "C" fn gilstavo_check_bounded(sheet: &[u16]) -> u16
+pub fn gilstavo_check_bounded(sheet: &[u16]) -> u16
     ensures { result ≡ bounded_refusal sheet.now }
 {
     check_bounded(sheet)
 }
 
 // 11, 33, else 0; where the edge words of a copy stand in the sheet: the first word, counted from 0, and their number.
-#[unsafe(no_mangle)]
-pub extern "C" fn gilstavo_edge_words(
-    sheet: &[u16],
-    copy: u16,
-    start: &mut usize,
-    size: &mut usize,
-) -> u16
+pub fn gilstavo_edge_words(sheet: &[u16], copy: u16, start: &mut usize, size: &mut usize) -> u16
     ensures value { result ≡ (hand_out sheet.now copy).answer }
     ensures placed { Placed sheet.now start.new size.new
         (hand_out sheet.now copy).start (hand_out sheet.now copy).words }
@@ -113,8 +98,7 @@ pub extern "C" fn gilstavo_edge_words(
 // WALKS
 
 // The starting walk.
-#[unsafe(no_mangle)]
-pub extern "C" fn gilstavo_start(walk: &mut [u16; 4])
+pub fn gilstavo_start(walk: &mut [u16; 4])
     ensures { walk.new ≡ walk_words starting_walk }
 {
     let w = Walk::start();
@@ -122,8 +106,7 @@ pub extern "C" fn gilstavo_start(walk: &mut [u16; 4])
 }
 
 // 1 to 4, 41, 43, 5 to 8, 21, 9, 33, else 0; a guarded start with a budget's number of a walk that is set in place.
-#[unsafe(no_mangle)]
-pub extern "C" fn gilstavo_start_guarded(
+pub fn gilstavo_start_guarded(
     sheet: &[u16],
     handler: u16,
     area: &mut [u8],
@@ -146,8 +129,7 @@ pub extern "C" fn gilstavo_start_guarded(
 }
 
 // 11, 33, else 0; a bounded start with a budget's number of a walk that is set in place.
-#[unsafe(no_mangle)]
-pub extern "C" fn gilstavo_start_bounded(sheet: &[u16], walk: &mut [u16; 4], budget: u16) -> u16
+pub fn gilstavo_start_bounded(sheet: &[u16], walk: &mut [u16; 4], budget: u16) -> u16
     ensures value { result ≡ (bounded_outset sheet.now walk.old budget).answer }
     ensures walk_after { walk.new ≡ (bounded_outset sheet.now walk.old budget).after }
 {
@@ -161,8 +143,7 @@ pub extern "C" fn gilstavo_start_bounded(sheet: &[u16], walk: &mut [u16; 4], bud
 }
 
 // 1 to 4, 41, 43, 5 to 8, 21, 9, 33, 32, 31, else 0; a guarded move of a walk that is changed in place.
-#[unsafe(no_mangle)]
-pub extern "C" fn gilstavo_guarded_move(
+pub fn gilstavo_guarded_move(
     sheet: &[u16],
     handler: u16,
     area: &mut [u8],
@@ -185,8 +166,7 @@ pub extern "C" fn gilstavo_guarded_move(
 }
 
 // 11, 33, 32, 31, else 0; a bounded move of a walk that is changed in place.
-#[unsafe(no_mangle)]
-pub extern "C" fn gilstavo_bounded_move(sheet: &[u16], walk: &mut [u16; 4], choice: u16) -> u16
+pub fn gilstavo_bounded_move(sheet: &[u16], walk: &mut [u16; 4], choice: u16) -> u16
     ensures value { result ≡ (bounded_step sheet.now walk.old choice).answer }
     ensures walk_after { walk.new ≡ (bounded_step sheet.now walk.old choice).after }
 {

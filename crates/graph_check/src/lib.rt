@@ -1,5 +1,7 @@
 // A public call on a graph sheet: its conditions 1 to 8 in order, with 41 behind 4; and with the handler's cost, which brings 43 behind 41.
 // Rests on words, headers, budgets, form_check, edge_check; the promises are equations with formats GraphSheet.
+#![tactic(auto)]
+
 ghost use Rattle.std.specs.Prelude.{◌≡◌};
 ghost use Rattle.base.specs.Checks.{refused};
 ghost use Rattle.formats.specs.GraphSheet.{header_of, cost_fits, bad_costs, Recorded};

@@ -1,5 +1,7 @@
 // A graph in one row of words: its words by number. Everything behind the checks reads a graph so, and knows no sheet.
 // Rests on words; the graph that a row holds is specs GraphRow.
+#![tactic(auto)]
+
 ghost use Rattle.std.specs.Prelude.{◌≡◌, ◌-◌, ◌*◌, ◌≤◌, ◌<◌, length, get_or};
 ghost use Rattle.formats.specs.Limits.{most_blocks, word_limit};
 ghost use Rattle.graph_row.specs.GraphRow.{blocks_in, cost_in, start_in, degree_in};

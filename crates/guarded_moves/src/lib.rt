@@ -1,5 +1,7 @@
 // A public call: a guarded move on a graph sheet with the handler's cost, with the walk by value.
 // Rests on weigh_sheet, headers, lowered, graph_row, look, walk; the promise is calls Moves.
+#![tactic(auto)]
+
 ghost use Rattle.std.specs.Prelude.{◌≡◌, ◌≤◌, length};
 ghost use Rattle.theory.specs.Machines.{reply};
 ghost use Rattle.theory.specs.Walks.{InShape, monitor};

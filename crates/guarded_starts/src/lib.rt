@@ -1,5 +1,7 @@
 // A public call: the start of a walk on a graph sheet with a chosen budget and the handler's cost, with the walk by value.
 // Rests on weigh_sheet, headers, lowered, look, walk; the promise is calls Starts.
+#![tactic(auto)]
+
 ghost use Rattle.std.specs.Prelude.{◌≡◌, ◌≤◌, length};
 ghost use Rattle.formats.specs.GraphSheet.{handled_refusal};
 ghost use Rattle.calls.specs.SheetGraph.{task};

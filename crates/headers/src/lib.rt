@@ -1,5 +1,7 @@
 // THE HEADERS of both kinds of sheet, in both versions, each read once: everything behind them takes what they say as numbers. Below the
 // public calls. Rests on words; the definitions are formats Versions, GraphSheet and BoundedSheet.
+#![tactic(auto)]
+
 ghost use Rattle.std.specs.Prelude.{◌≡◌, true, ◌+◌, ◌*◌, ◌≤◌, ◌<◌, length};
 ghost use Rattle.base.specs.Lists.{nth};
 ghost use Rattle.formats.specs.Limits.{least_words, word_limit};

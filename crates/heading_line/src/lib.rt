@@ -1,5 +1,7 @@
 // The heading of a listing, written into a lent row of bytes.
 // Rests on digits; the promises say the whole row, by digits Wrote and specs Heading.
+#![tactic(auto)]
+
 ghost use Rattle.std.specs.Prelude.{◌≤◌, length};
 ghost use Rattle.digits.specs.Wrote.{Wrote};
 ghost use Rattle.heading_line.specs.Heading.{heading_text};

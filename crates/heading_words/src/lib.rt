@@ -1,5 +1,7 @@
 // THE HEADER of a bounded sheet, in either version, put at the front of a row: the counts, the budgets and their entries. Below the public calls.
 // Rests on number, put_words; the definition is formats BoundedSheet `heading_words`.
+#![tactic(auto)]
+
 ghost use Rattle.std.specs.Prelude.{◌≡◌, ◌∷◌, ◌++◌, ◌+◌, ◌≤◌, ◌<◌, length};
 ghost use Rattle.base.specs.Lists.{last_of};
 ghost use Rattle.theory.specs.Completions.{low_of};

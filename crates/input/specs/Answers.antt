@@ -1,10 +1,15 @@
--- What a call of `read` answered: a number of bytes, 0 at the end of the input, or below 0 for a failed read.
--- Rests on io Counts.
-use Rattle.std.specs.Prelude.{ℤ, pos, ℕ}
-use Rattle.std.specs.Int.Signed.{lt_z}
-use Rattle.io.specs.Counts.{clamp_len}
-use Rattle.input.specs.declared.Piece.{Piece}
+-- What a call of `read` answered: a number of bytes, 0 at the end of the input, or a failed read; and what `write_all` answered.
+use Rattle.std.specs.Prelude.{ℕ, Result, Ok, Err}
+use Rattle.std.specs.declared.io.Error.{Error}
+use Rattle.input.specs.declared.Failure.{Failure}
+use Rattle.input.specs.declared.Failure.TheVariants.{Input, Output}
 
--- into a row of n bytes
-abbrev pub piece_of : ℤ → ℕ → Piece
-piece_of got n = record { count = clamp_len got n; failed = lt_z got (pos 0) }
+-- of a read
+abbrev pub piece_of : Result ℕ Error → Result ℕ Failure
+piece_of (Ok n) = Ok n
+piece_of (Err e) = Err (Input e)
+
+-- of a write
+abbrev pub wrote_of : Result (Unit {0}) Error → Result (Unit {0}) Failure
+wrote_of (Ok u) = Ok u
+wrote_of (Err e) = Err (Output e)

@@ -1,70 +1,124 @@
-// Standard input piece by piece, and to its end, of which the first bytes are kept; a read that fails is said on standard error.
-// Rests on io, os and kept; no contract can say what is read, and what is made of the number that `read` answers is specs Answers.
-ghost use Rattle.std.specs.Prelude.{◌≡◌, ◌≤◌, length};
-ghost use Rattle.io.specs.Counts.{IsPrefixLen};
-ghost use Rattle.input.specs.Answers.{piece_of};
+// An input piece by piece, and to its end, of which the first bytes are kept; an output; and what is said where one of them fails.
+// Rests on kept. Generic over what is read and written, so that contracts name the bytes; of the streams themselves no contract can.
+#![tactic(auto)]
+
+ghost use Rattle.std.specs.Prelude.{◌≡◌, ◌≤◌, length, IfOk, IfErr, OnOk, OnErr, IfSome};
+ghost use Rattle.std.specs.Io.KnownBytes.{Appends, ReadConsumes};
+ghost use Rattle.std.specs.Io.{ReadsAtMost};
+ghost use Rattle.std.specs.Process.{exit_status};
+ghost use Rattle.kept.specs.Held.{Held, held_as};
+ghost use Rattle.input.specs.Answers.{piece_of, wrote_of};
+ghost use Rattle.input.specs.Failed.{OfInput, OfOutput, OfErrors, Front};
 
 use kept::{Kept, keep, nothing};
-use libc::STDIN_FILENO;
+use std::io::{Read, Write};
+use std::process::ExitCode;
+use std::{fmt, io};
 
-// The next bytes of an input: how many stand in a row, none at its end, and whether it could not be read.
-#[derive(Drop)]
-pub struct Piece {
-    pub count: usize,
-    pub failed: bool,
+// How many bytes are asked for at once.
+pub const PIECE: usize = 65536;
+
+// Which of the streams failed, and why.
+#[derive(Debug, Drop)]
+pub enum Failure {
+    Input(io::Error),
+    Output(io::Error),
+    Errors(io::Error),
 }
 
-// What is kept of an input that was read to its end, or of one that could not be.
-#[derive(Drop)]
-pub struct Input {
-    pub kept: Kept,
-    pub failed: bool,
-}
-
-// By the number that `read` answered.
-fn answered(got: isize, space: &[u8]) -> Piece
-    ensures value { result ≡ piece_of got (length space.now) }
-    ensures prefix_len { IsPrefixLen result.count space.now }
-{
-    Piece {
-        count: io::count(got, space),
-        failed: got < 0,
+impl fmt::Display for Failure {
+    fn fmt<W: fmt::Write>(&self, f: &mut fmt::Formatter<W>) -> fmt::Result {
+        match self {
+            Failure::Input(reason) => write!(f, "standard input: {reason}"),
+            Failure::Output(reason) => write!(f, "standard output: {reason}"),
+            Failure::Errors(reason) => write!(f, "standard error: {reason}"),
+        }
     }
 }
 
-// Reads the next bytes into a row. A read that fails is said on standard error, with the reason.
-pub fn read_piece(space: &mut [u8]) -> Piece
-    ensures { IsPrefixLen result.count space.new }
+// By what `read` answered.
+fn answered(got: io::Result<usize>) -> Result<usize, Failure>
+    ensures { result ≡ piece_of got }
 {
-    let got = libc::read(STDIN_FILENO, space);
-    let p = answered(got, space);
-    if p.failed {
-        os::fail(b"standard input");
+    match got {
+        Ok(count) => Ok(count),
+        Err(reason) => Err(Failure::Input(reason)),
     }
-    p
+}
+
+// By what `write_all` answered.
+fn written(got: io::Result<()>) -> Result<(), Failure>
+    ensures { result ≡ wrote_of got }
+{
+    match got {
+        Ok(()) => Ok(()),
+        Err(reason) => Err(Failure::Output(reason)),
+    }
+}
+
+// Reads the next bytes into a row: how many, none only at the end or where the row is empty.
+pub fn read_piece<R: Read>(reader: &mut R, space: &mut [u8]) -> Result<usize, Failure>
+    ensures prefix_len { ReadsAtMost result space.new }
+    ensures bytes { ReadConsumes (R.remaining reader.old) (R.remaining reader.new) result space.new }
+    ensures failure { IfErr result OfInput }
+{
+    let got = reader.read(space);
+    answered(got)
 }
 
 // Reads to the end, piece by piece, and keeps what the row has room for.
-pub fn read_to_end(row: &mut [u8]) -> Input
-    ensures { result.kept.count ≤ length row.new }
+pub fn read_to_end<R: Read>(reader: &mut R, row: &mut [u8]) -> Result<Kept, Failure>
+    ensures count { IfOk result (λ s. s.count ≤ length row.new) }
+    ensures kept { IfOk result (λ s. IfSome (R.remaining reader.old) (λ xs. Held xs row.new (held_as s))) }
+    ensures err { OnErr result (Front (R.remaining reader.old) (R.remaining reader.new) row.new) }
+    ensures failure { IfErr result OfInput }
 {
     let mut s = nothing();
-    let mut space = io::large_buffer();
-    let mut turns = u64::MAX;
-    while turns > 0 {
-        let p = read_piece(&mut space);
-        let n = p.count;
+    let mut space = [0u8; PIECE];
+    for _ in 0..u64::MAX {
+        let n = read_piece(reader, &mut space)?;
         if n == 0 {
-            return Input {
-                kept: s,
-                failed: p.failed,
-            };
+            return Ok(s);
         }
         s = keep(s, &space[..n], row);
-        turns -= 1;
     }
-    Input {
-        kept: s,
-        failed: true,
+    Err(no_end())
+}
+
+// An input is given up after so many pieces that none has as many.
+pub fn no_end() -> Failure
+    ensures { OfInput result }
+{
+    Failure::Input(io::Error::other("no end"))
+}
+
+// Writes all of a text.
+pub fn print<W: Write>(writer: &mut W, text: &[u8]) -> Result<(), Failure>
+    ensures ok { OnOk result (Appends (W.contents writer.old) (W.contents writer.new) text.now) }
+    ensures failure { IfErr result OfOutput }
+{
+    let got = writer.write_all(text);
+    written(got)
+}
+
+// The same to standard error.
+pub fn print_error<W: Write>(writer: &mut W, text: &[u8]) -> Result<(), Failure>
+    ensures ok { OnOk result (Appends (W.contents writer.old) (W.contents writer.new) text.now) }
+    ensures failure { IfErr result OfErrors }
+{
+    writer.write_all(text).map_err(Failure::Errors)
+}
+
+// How a program ends: a failure is said on standard error, with the reason.
+pub fn ending(rt: &impl Eprint, done: Result<(), Failure>) -> ExitCode
+    ensures ok { OnOk done (exit_status result ≡ 0) }
+    ensures err { OnErr done (exit_status result ≡ 1) }
+{
+    match done {
+        Ok(()) => ExitCode::SUCCESS,
+        Err(failure) => {
+            let _ = eprintln!(rt; "{failure}");
+            ExitCode::FAILURE
+        }
     }
 }

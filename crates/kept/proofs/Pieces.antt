@@ -1,6 +1,5 @@
 -- FOR EVERY WAY OF CUTTING AN INPUT into pieces, each given to `keep` with the row and what is kept as the last call left them: what is kept
 -- in the end is that of the whole. Rests on specs Held, More.
-use mathlib.Core.Path.{◌≡◌}
 use mathlib.Core.List.{List, [], ◌++◌}
 use Prim.Native.Nat.{ℕ}
 use Rattle.kept.specs.Held.{Holding, Held, none}

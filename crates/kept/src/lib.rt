@@ -1,5 +1,7 @@
 // The first bytes of an input, and whether it has an odd number of them, however it comes in pieces. Below the programs.
 // Rests on formats; for every way of cutting the input it is the same (proofs Pieces `pieces-held`).
+#![tactic(auto)]
+
 ghost use Rattle.std.specs.Prelude.{◌≡◌, List, [], ◌∷◌, ◌++◌, ℕ, ◌≤◌, length, take};
 ghost use Rattle.kept.specs.Held.{Held, none, held_as};
 
@@ -42,14 +44,9 @@ pub fn keep(s: Kept, bytes: &[u8], row: &mut [u8]) -> Kept
 {
     let mut count = s.count;
     let mut odd = s.odd;
-    let mut i = 0;
-    while i < bytes.len() {
-        count = keep_byte(row, count, bytes[i]);
+    for b in bytes {
+        count = keep_byte(row, count, *b);
         odd = !odd;
-        i += 1;
     }
-    Kept {
-        count: count,
-        odd: odd,
-    }
+    Kept { count, odd }
 }

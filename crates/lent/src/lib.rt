@@ -1,6 +1,8 @@
 // Public calls: the two starts and the two moves on a lent walk, which is changed where it stands.
 // Rests on guarded_starts, bounded_starts, guarded_moves and bounded_moves, whose calls take the walk by value; the promises are calls Starts and
 // Moves.
+#![tactic(auto)]
+
 ghost use Rattle.std.specs.Prelude.{◌≡◌};
 ghost use Rattle.calls.specs.Moves.{guarded_move, bounded_move};
 ghost use Rattle.calls.specs.Starts.{guarded_start, bounded_start};

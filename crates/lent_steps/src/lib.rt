@@ -1,5 +1,7 @@
 // A start and a move of a walk by value, made on a lent walk.
 // Rests on lent, whose calls change the walk where it stands; the promises are calls Starts and Moves.
+#![tactic(auto)]
+
 ghost use Rattle.std.specs.Prelude.{◌≡◌};
 ghost use Rattle.calls.specs.Moves.{guarded_move, bounded_move};
 ghost use Rattle.calls.specs.Starts.{guarded_start, bounded_start};

@@ -1,5 +1,7 @@
 // The listing of a file, on slices: below the program, which reads the file and writes the text.
 // Rests on file_words, build, front, text; the text is calls Program `listing` of the whole file (proofs Files).
+#![tactic(auto)]
+
 ghost use Rattle.std.specs.Prelude.{◌≡◌, List, ℕ, ◌≤◌, length};
 ghost use Rattle.formats.specs.Limits.{most_cells};
 ghost use Rattle.formats.specs.BoundedSheet.{heading, bounded_length};

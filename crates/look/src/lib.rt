@@ -1,5 +1,7 @@
 // The look-up of a completion cost, read off the work area: by a scan, and as a row that is filled once. Below the public calls.
 // Rests on cells, tables; the promises are tables `look_in`, the look-up among the costs that the area stands for.
+#![tactic(auto)]
+
 ghost use Rattle.std.specs.Prelude.{◌≡◌, ◌≤◌, length};
 ghost use Rattle.base.specs.Cells.{cell_of, cell_count};
 ghost use Rattle.base.specs.Lists.{option_of};

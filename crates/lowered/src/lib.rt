@@ -1,5 +1,7 @@
 // THE BUDGETS OF A GRAPH SHEET LESS THE HANDLER'S COST h: the largest, the one with a number, and all of them as a row. Below the public calls.
 // Rests on words, headers, put_words; the definition is formats Versions `lowered`.
+#![tactic(auto)]
+
 ghost use Rattle.std.specs.Prelude.{◌≡◌, ◌+◌, ◌-◌, ◌≤◌, ◌<◌, length};
 ghost use Rattle.base.specs.Lists.{last_of, nth};
 ghost use Rattle.formats.specs.Limits.{least_words, word_limit};

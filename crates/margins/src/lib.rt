@@ -1,5 +1,7 @@
 // The margins of a bounded sheet's copies, looked up in the work area of its build and written into a lent row of bytes.
 // Rests on words, look and digits; the promise says the whole row, by digits Wrote and specs Margins.
+#![tactic(auto)]
+
 ghost use Rattle.std.specs.Prelude.{◌+◌, ◌<◌, ◌≤◌, length};
 ghost use Rattle.base.specs.Lists.{option_of};
 ghost use Rattle.formats.specs.Limits.{most_cells};

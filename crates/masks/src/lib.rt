@@ -1,5 +1,7 @@
 // Masks over the blocks of a graph: sets of blocks 1 to 128, two words each, in one row. Below the public calls.
 // Rests on nothing; the contracts cite specs Masks, which blocks are in a mask.
+#![tactic(auto)]
+
 ghost use Rattle.std.specs.Prelude.{◌≡◌, ◌+◌, ◌*◌, ◌≤◌, length};
 ghost use Rattle.masks.specs.Masks.{Put, Meets};
 

@@ -1,5 +1,7 @@
 // The numbers of the marked copies: given, counted, and looked up. Below the public calls.
 // Rests on tables; the copies are the marked cells in order, and their numbers stand in the row of the lows.
+#![tactic(auto)]
+
 ghost use Rattle.std.specs.Prelude.{◌≡◌, false, ℕ, suc, ◌<◌, ◌≤◌, length, get_or};
 ghost use Rattle.std.proofs.Math.Option.{Option};
 ghost use Rattle.base.specs.Cells.{cell_of, cell_count};

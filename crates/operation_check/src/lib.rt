@@ -1,5 +1,7 @@
 // The conditions of an operation sheet in order: those of a graph sheet but 5, with 3 counting the records, and 42. Below the public calls.
 // Rests on words, headers, budgets, form_check, graph_check, chain_check; the promise is an equation with operation_sheet Operations.
+#![tactic(auto)]
+
 ghost use Rattle.std.specs.Prelude.{◌≡◌, ◌++◌, ◌+◌, ◌≤◌, ◌<◌, length};
 ghost use Rattle.base.specs.Checks.{refused};
 ghost use Rattle.formats.specs.Limits.{least_words, word_limit, most_operations};

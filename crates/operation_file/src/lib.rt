@@ -1,5 +1,7 @@
 // The graph sheet of an operation sheet's file, on slices: below the program, which reads the file and writes the bytes.
 // Rests on file_words, convert_operations, file_bytes, text; the bytes are specs Program `converted` of the whole file (proofs Files).
+#![tactic(auto)]
+
 ghost use Rattle.std.specs.Prelude.{◌≡◌, List, ℕ, ◌≤◌, length};
 ghost use Rattle.digits.specs.Wrote.{Wrote};
 ghost use Rattle.kept.specs.Held.{Held, held_as};

@@ -1,5 +1,7 @@
 // THE TABLE of the cycles of each operation, and their look-up.
 // Rests on formats Limits; the definition is specs Operations `cycles_of`.
+#![tactic(auto)]
+
 ghost use Rattle.std.specs.Prelude.{◌≡◌, ◌≤◌};
 ghost use Rattle.formats.specs.Limits.{most_operation};
 ghost use Rattle.operation_sheet.specs.Operations.{cycles_of};

@@ -1,5 +1,7 @@
 // The bounded sheet of copies that are marked and numbered, in the output row: 10, 22, or 0 and its words. Below the public calls.
 // Rests on heading_words, write.
+#![tactic(auto)]
+
 ghost use Rattle.std.specs.Prelude.{◌≡◌, false, ◌++◌, ◌≤◌, length, drop};
 ghost use Rattle.base.specs.Cells.{cell_count};
 ghost use Rattle.base.specs.Lists.{is_none, last_of};

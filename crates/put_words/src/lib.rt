@@ -1,5 +1,7 @@
 // Words put into a lent row, one, two or three at once, or a part of another row.
 // Rests on words; a row with words put into it is said by specs Put.
+#![tactic(auto)]
+
 ghost use Rattle.std.specs.Prelude.{◌≡◌, [], ◌∷◌, ◌+◌, ◌<◌, ◌≤◌, length};
 ghost use Rattle.formats.specs.Limits.{word_limit};
 ghost use Rattle.put_words.specs.Put.{put_words};

@@ -1,5 +1,7 @@
 // Public calls: the edge words of one copy of a bounded sheet, handed back as a part of the caller's slice, their place and their answer.
 // Rests on words, headers, chains, bounded_check; the promises are equations with formats Rule11.
+#![tactic(auto)]
+
 ghost use Rattle.std.specs.Prelude.{◌≡◌, ◌≤◌};
 ghost use Rattle.formats.specs.BoundedSheet.{heading_of};
 ghost use Rattle.formats.specs.Rule11.{Ruled, hand_out};

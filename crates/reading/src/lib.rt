@@ -1,5 +1,7 @@
 // Decimal words in a text, read into a sheet's bytes however the text comes in pieces; a fault is told by line, column and what stood there.
 // Rests on fault_line, word_bytes, word_reading and byte_reading; for every way of cutting a text it is the same (proofs Pieces `pieces-read`).
+#![tactic(auto)]
+
 ghost use Rattle.std.specs.Prelude.{◌≡◌, List, ℕ, ◌≤◌, length};
 ghost use Rattle.text_form.specs.Reading.{start, ended};
 ghost use Rattle.fault_line.specs.Faults.{said_size};

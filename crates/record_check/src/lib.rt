@@ -1,5 +1,7 @@
 // The records of a bounded sheet, behind any header: one pass over the copies, each with its chain of edges and their targets.
 // Rests on words, copy_check; the promise is an equation with specs Records, over formats Rule11.
+#![tactic(auto)]
+
 ghost use Rattle.std.specs.Prelude.{◌≡◌, suc, ◌+◌, ◌*◌, ◌≤◌, length};
 ghost use Rattle.formats.specs.Limits.{most_copies, most_bounded_edges};
 ghost use Rattle.formats.specs.Words.{next_from, target_from};

@@ -1,5 +1,7 @@
 // The closing lines of a report, and three numbers in a line, written into a lent row of bytes.
 // Rests on digits; the promises say the whole row, by digits Wrote and formats Report.
+#![tactic(auto)]
+
 ghost use Rattle.std.specs.Prelude.{◌+◌, ◌<◌, ◌≤◌, length};
 ghost use Rattle.formats.specs.Report.{total_line, most_line};
 ghost use Rattle.digits.specs.Wrote.{Wrote};

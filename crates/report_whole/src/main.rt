@@ -1,7 +1,11 @@
 // The report program once more, for a stored run: a whole catalogue, at whose end the input ends.
 // Rests on reporting, which reads, feeds and writes.
-use reporting::run;
+#![tactic(auto)]
 
-fn main() {
-    run();
+use input::ending;
+use reporting::run;
+use std::process::ExitCode;
+
+fn main(rt: HostRuntime) -> ExitCode {
+    ending(&rt, run(&mut rt.stdin(), &mut rt.stdout()))
 }

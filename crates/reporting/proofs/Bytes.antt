@@ -1,30 +1,72 @@
--- Byte by byte through a piece.
--- Rests on kept More, framing Feeding, specs Taken.
-use mathlib.Core.Path.{sym, subst}
-use mathlib.Core.List.{List, ◌++◌, append-nil}
-use Prim.Native.Nat.{ℕ, ◌+◌, ◌≤◌, ◌<◌}
-use lib.ListN.{length, get_or, take}
+-- What comes and what is written, byte by byte through a piece, piece by piece, and at the end.
+-- Rests on kept More, framing Came and Feeding, stream Ends, specs Taken and Printed.
+use Rattle.std.proofs.Common.{◌≡◌, false, Some, None, IfSome, ap, ◌∙◌, append_assoc, List, ◌++◌, ℕ, ◌+◌, ◌<◌, ◌≤◌, length, get_or, take, subst, sym, append-nil}
+use Rattle.std.proofs.KnownBytes.{Appends-trans}
+use Rattle.std.specs.Io.KnownBytes.{Appends, Consumes}
+use Rattle.std.specs.Prelude.{Option, Result, Ok, Err, OnErr}
 use lib.Seq.{take_all}
+use Rattle.base.proofs.Truth.{not-both}
 use Rattle.kept.proofs.More.{bytes_next}
 use Rattle.framing.specs.declared.Progress.{Progress}
 use Rattle.framing.specs.declared.Handed.{Handed}
+use Rattle.framing.specs.Came.{Came}
 use Rattle.framing.specs.Feeding.{Feeds}
 use Rattle.reporting.specs.Taken.{Taken, Takes}
+use Rattle.reporting.specs.Printed.{Printed, Prints}
 
 module _ (bytes : List ℕ) {s : Progress} {row marks : List ℕ} where
   -- before the first
   pub takes_none : Takes (take 0 bytes) s row marks s row marks
   takes_none xs T = subst (λ (w : List ℕ). Taken w s row marks) (sym (append-nil xs)) T
 
-  module _ {s' : Progress} {row' marks' : List ℕ} (i : ℕ) (T : Takes (take i bytes) s row marks s' row' marks') where
-    -- one more
-    pub takes-next : {text : List ℕ} {r : Handed} {row'' marks'' text'' : List ℕ} → i < length bytes
-        → Feeds (get_or bytes i 0) s' row' marks' text r row'' marks'' text'' → Takes (take (i + 1) bytes) s row marks r.progress row'' marks''
-    takes-next {r = r} {row''} {marks''} l F xs U =
-        let N = T xs U in
-        subst (λ (w : List ℕ). Taken w r.progress row'' marks'') (bytes_next xs bytes i l)
-        (record { said = _; came = (F (xs ++ take i bytes) N.said N.came).came })
+  pub prints_none : (old : Option (List ℕ)) → Prints (take 0 bytes) old s row marks old s row marks
+  prints_none old xs before P = subst (λ (w : List ℕ). Printed w before old s row marks) (sym (append-nil xs)) P
 
-    -- behind the last
-    pub takes_all : length bytes ≤ i → Takes bytes s row marks s' row' marks'
-    takes_all l = subst (λ (w : List ℕ). Takes w s row marks s' row' marks') (take_all i bytes l) T
+  -- one more
+  pub takes_next : (i : ℕ) {s' : Progress} {row' marks' text row'' marks'' text'' : List ℕ} {r : Handed} → i < length bytes
+      → Takes (take i bytes) s row marks s' row' marks' → Feeds (get_or bytes i 0) s' row' marks' text r row'' marks'' text''
+      → Takes (take (i + 1) bytes) s row marks r.progress row'' marks''
+  takes_next i {row'' = row''} {marks'' = marks''} {r = r} l T F xs U =
+      let N = T xs U in
+      subst (λ (w : List ℕ). Taken w r.progress row'' marks'') (bytes_next xs bytes i l)
+      (record { said = _; came = (F _ N.said N.came).came })
+
+  pub prints_next : (i : ℕ) {s' : Progress} {row' marks' text row'' marks'' text'' : List ℕ} {r : Handed} {old now new : Option (List ℕ)} → i < length bytes
+      → Prints (take i bytes) old s row marks now s' row' marks' → Feeds (get_or bytes i 0) s' row' marks' text r row'' marks'' text''
+      → Appends now new (take r.size text'')
+      → Prints (take (i + 1) bytes) old s row marks new r.progress row'' marks''
+  prints_next i {row'' = row''} {marks'' = marks''} {r = r} {new = new} l P F W xs before U =
+      let N = P xs before U in
+      subst (λ (w : List ℕ). Printed w before new r.progress row'' marks'') (bytes_next xs bytes i l)
+      (record { said = _; came = (F _ N.said N.came).came; written = Appends-trans before _ new N.said _ N.written W })
+
+  -- behind the last
+  pub takes_all : {s' : Progress} {row' marks' : List ℕ} (i : ℕ) → Takes (take i bytes) s row marks s' row' marks' → length bytes ≤ i
+      → Takes bytes s row marks s' row' marks'
+  takes_all {s'} {row'} {marks'} i T l = subst (λ (w : List ℕ). Takes w s row marks s' row' marks') (take_all i bytes l) T
+
+-- of a failure, what holds anyway
+pub at_err : {T E P : Type 0} (r : Result T E) → P → OnErr r P
+at_err (Ok x) p = tt
+at_err (Err e) p = p
+
+-- WHERE NO SHEET MAY COME nothing that comes matters
+came_behind : {xs said : List ℕ} {s : Progress} {row marks : List ℕ} → Came xs said s row marks → s.more ≡ false → (ys : List ℕ) → Came (xs ++ ys) said s row marks
+came_behind C f ys =
+    record {
+      front = C.front;
+      rest = C.rest ++ ys;
+      bodies = C.bodies;
+      cut = ap (λ (w : List ℕ). w ++ ys) C.cut ∙ append_assoc C.front C.rest ys;
+      sheets = C.sheets;
+      going = λ g. absurd (not-both g f);
+      full = C.full;
+    }
+
+pub printed_all : (a b : Option (List ℕ)) (came : List ℕ) {before now : Option (List ℕ)} {s : Progress} {row marks : List ℕ} → Consumes a b came
+    → Printed came before now s row marks → s.more ≡ false → IfSome a (λ xs. Printed xs before now s row marks)
+printed_all None b came c P f = tt
+printed_all (Some xs) None came c P f = absurd c
+printed_all (Some xs) (Some ys) came {before} {now} {s} {row} {marks} c P f =
+    subst (λ (w : List ℕ). Printed w before now s row marks) (sym c)
+    (record { said = P.said; came = came_behind P.came f ys; written = P.written })

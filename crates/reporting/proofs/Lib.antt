@@ -1,2 +1,4 @@
--- byte by byte through a piece: takes-none, takes-next, takes-all
+-- what comes and what is written, byte by byte: takes_none, takes_next, takes_all, prints_none, prints_next, came_behind, printed_all; at_err
 pub mod Bytes
+-- the closing parts that were written: PartsPrinted
+pub mod Parts

@@ -1,4 +1,4 @@
--- What `feed_piece` promises: the bytes of a piece came, each once and in order; that what is handed back is printed, no contract can say.
+-- What `feed_piece` promises: the bytes of a piece came, each once and in order; that what is handed back is printed says Printed.
 -- Rests on framing Came.
 use Rattle.std.specs.Prelude.{List, ◌++◌, ℕ}
 use Rattle.framing.specs.declared.Progress.{Progress}

@@ -1,12 +1,14 @@
 // Gives lists of choices to three machines and prints their rows: the monitor, guarded moves on the graph sheet, bounded moves on the sheet
 // that the build filled. On sheets of the second version they set out by the starts, with each budget; all take one handler's cost h.
 // Rests on build, lent_steps, reader, walk. The monitor here is plain code of its own, which finds completions by itself.
+#![tactic(auto)]
+
 ghost use Rattle.std.specs.Prelude.{◌<◌, ◌≤◌, length};
 
 use build::build;
 use lent_steps::{bounded_outset, bounded_step, guarded_outset, guarded_step};
-use libc::STDOUT_FILENO;
 use reader::edge_words;
+use std::io;
 use walk::{End, Moved, Walk};
 
 // The example of document 01 at the budget 8.
@@ -125,13 +127,11 @@ fn edge(s: &[u16], v: usize, k: usize) -> usize
         return 0;
     }
     let mut e = first_edge(s, v);
-    let mut i = 1;
-    while i < k {
+    for _ in 1..k {
         if e == 0 {
             return 0;
         }
         e = next_edge(s, e);
-        i += 1;
     }
     e
 }
@@ -153,8 +153,7 @@ fn by_successors(s: &[u16], row: &[u16], v: usize) -> usize
     let cost = cost_of(s, v);
     let mut best = NONE;
     let mut e = first_edge(s, v);
-    let mut left = 512usize;
-    while 0 < left {
+    for _ in 0..512 {
         if e == 0 {
             return best;
         }
@@ -162,7 +161,6 @@ fn by_successors(s: &[u16], row: &[u16], v: usize) -> usize
         let c = cost + cost_in(row, t);
         best = smaller(c, best);
         e = next_edge(s, e);
-        left -= 1;
     }
     best
 }
@@ -180,10 +178,8 @@ fn entry(s: &[u16], row: &[u16], v: usize) -> u16
 // One round over the blocks.
 fn round(s: &[u16], row: [u16; 9]) -> [u16; 9] {
     let mut next = row;
-    let mut v = 1;
-    while v < 9 {
+    for v in 1..9 {
         next[v] = entry(s, &next, v);
-        v += 1;
     }
     next
 }
@@ -192,10 +188,8 @@ fn round(s: &[u16], row: [u16; 9]) -> [u16; 9] {
 fn cheapest(s: &[u16]) -> [u16; 9] {
     let mut row = [65535u16; 9];
     row[2] = 0;
-    let mut k = 0usize;
-    while k < 8 {
+    for _ in 0..8 {
         row = round(s, row);
-        k += 1;
     }
     row
 }
@@ -293,33 +287,30 @@ fn monitor(s: &[u16], h: u16, completions: &[u16], w: Walk, choice: u16) -> Move
     }
 }
 
-fn number(n: usize) {
-    io::write_all(STDOUT_FILENO, b" ");
-    io::print_decimal(STDOUT_FILENO, n as u64);
+fn number(rt: &impl Print, n: usize) -> io::Result<()> {
+    print!(rt; " {n}")
 }
 
 // The first n of eight numbers.
-fn print_row(row: [u16; 8], n: usize) {
-    let mut j = 0;
-    while j < 8 {
+fn print_row(rt: &impl Print, row: [u16; 8], n: usize) -> io::Result<()> {
+    for j in 0..8 {
         if j < n {
-            number(wide(row[j]));
+            number(rt, wide(row[j]))?;
         }
-        j += 1;
     }
+    Ok(())
 }
 
 // The end of a row: the block that the walk shows, its count, and its end as 0 going, 1 exit, 2 diverted.
-fn print_end(block: usize, w: Walk) {
-    io::write_all(STDOUT_FILENO, b" :");
-    number(block);
-    number(w.count as usize);
-    let end = w.end;
-    match end {
-        End::Going => io::write_all(STDOUT_FILENO, b" 0\n"),
-        End::Exit => io::write_all(STDOUT_FILENO, b" 1\n"),
-        End::Diverted => io::write_all(STDOUT_FILENO, b" 2\n"),
-    };
+fn print_end(rt: &impl Print, block: usize, w: Walk) -> io::Result<()> {
+    print!(rt; " :")?;
+    number(rt, block)?;
+    number(rt, w.count as usize)?;
+    match w.end {
+        End::Going => println!(rt; " 0"),
+        End::Exit => println!(rt; " 1"),
+        End::Diverted => println!(rt; " 2"),
+    }
 }
 
 // The block of a copy, from a bounded sheet's words.
@@ -333,18 +324,16 @@ fn block_of(sheet: &[u16], copy: u16) -> usize
 }
 
 // The targets of a copy, from its edge words.
-fn print_targets(sheet: &[u16], copy: u16) {
+fn print_targets(rt: &impl Print, sheet: &[u16], copy: u16) -> io::Result<()> {
     let mut answer = 0u16;
     let part = edge_words(sheet, copy, &mut answer);
-    io::write_all(STDOUT_FILENO, b"targets");
-    let mut i = 0;
-    while i < part.len() {
+    print!(rt; "targets")?;
+    for (i, word) in part.iter().enumerate() {
         if i % 2 == 0 {
-            number(wide(part[i]));
+            number(rt, wide(*word))?;
         }
-        i += 1;
     }
-    io::write_all(STDOUT_FILENO, b"\n");
+    println!(rt)
 }
 
 // The three machines after some choices, with their answers.
@@ -376,32 +365,33 @@ fn begin() -> Machines {
 }
 
 // The answers of the two starts.
-fn print_starts(k: u16, guarded: u16, bounded: u16) {
-    io::write_all(STDOUT_FILENO, b"budget");
-    number(wide(k));
-    io::write_all(STDOUT_FILENO, b" :");
-    number(wide(guarded));
-    number(wide(bounded));
-    io::write_all(STDOUT_FILENO, b"\n");
+fn print_starts(rt: &impl Print, k: u16, guarded: u16, bounded: u16) -> io::Result<()> {
+    print!(rt; "budget")?;
+    number(rt, wide(k))?;
+    print!(rt; " :")?;
+    number(rt, wide(guarded))?;
+    number(rt, wide(bounded))?;
+    println!(rt)
 }
 
 // The three set out with the k-th budget; the answers of the two starts are printed.
 fn outset(
+    rt: &impl Print,
     graph: &[u16],
     h: u16,
     completions: &[u16],
     area: &mut [u8],
     sheet: &[u16],
     k: u16,
-) -> Machines {
+) -> io::Result<Machines> {
     let w = Walk::start();
     let g = guarded_outset(graph, h, area, w, k);
     let b = bounded_outset(sheet, w, k);
-    print_starts(k, g.answer, b.answer);
+    print_starts(rt, k, g.answer, b.answer)?;
     let x = watch(graph, h, completions, k);
     let y = g.walk;
     let z = b.walk;
-    together(x, y, z)
+    Ok(together(x, y, z))
 }
 
 // One choice, the j-th of n, given to all three; nothing beyond the n-th.
@@ -455,16 +445,15 @@ fn run(
     n: usize,
 ) -> Machines {
     let mut m = from;
-    let mut j = 0;
-    while j < 8 {
+    for j in 0..8 {
         m = give(graph, h, completions, area, sheet, m, n, j, choices[j]);
-        j += 1;
     }
     m
 }
 
 // One list: its choices, a row for each machine, and the targets of the copy at which the bounded walk stands.
 fn print_list(
+    rt: &impl Print,
     graph: &[u16],
     h: u16,
     completions: &[u16],
@@ -473,75 +462,86 @@ fn print_list(
     from: Machines,
     choices: [u16; 8],
     n: usize,
-) {
+) -> io::Result<()> {
     let m = run(graph, h, completions, area, sheet, from, choices, n);
-    io::write_all(STDOUT_FILENO, b"choices");
-    print_row(choices, n);
-    io::write_all(STDOUT_FILENO, b"\nmonitor");
+    print!(rt; "choices")?;
+    print_row(rt, choices, n)?;
+    print!(rt; "\nmonitor")?;
     let first = m.monitor_answers;
     let w = m.monitor;
-    print_row(first, n);
-    print_end(wide(w.place), w);
-    io::write_all(STDOUT_FILENO, b"guarded");
+    print_row(rt, first, n)?;
+    print_end(rt, wide(w.place), w)?;
+    print!(rt; "guarded")?;
     let second = m.guarded_answers;
     let v = m.guarded;
-    print_row(second, n);
-    print_end(wide(v.place), v);
-    io::write_all(STDOUT_FILENO, b"bounded");
+    print_row(rt, second, n)?;
+    print_end(rt, wide(v.place), v)?;
+    print!(rt; "bounded")?;
     let third = m.bounded_answers;
     let u = m.bounded;
-    print_row(third, n);
-    print_end(block_of(sheet, u.place), u);
-    print_targets(sheet, u.place);
+    print_row(rt, third, n)?;
+    print_end(rt, block_of(sheet, u.place), u)?;
+    print_targets(rt, sheet, u.place)
 }
 
 // The first choice again and again, until the walk has ended: on a built sheet within the most moves of any walk.
 fn run_out(sheet: &[u16]) -> Walk {
     let mut w = Walk::start();
-    let mut left = Walk::MOST_MOVES;
-    while 0 < left {
+    for _ in 0..Walk::MOST_MOVES {
         let m = bounded_step(sheet, w, 1);
         w = m.walk;
-        left -= 1;
     }
     w
 }
 
 // FROM THE STARTING WALK
 
-fn from_start(completions: &[u16], area: &mut [u8], sheet: &[u16], choices: [u16; 8], n: usize) {
+fn from_start(
+    rt: &impl Print,
+    completions: &[u16],
+    area: &mut [u8],
+    sheet: &[u16],
+    choices: [u16; 8],
+    n: usize,
+) -> io::Result<()> {
     let m = begin();
-    print_list(&SHEET, 0, completions, area, sheet, m, choices, n);
+    print_list(rt, &SHEET, 0, completions, area, sheet, m, choices, n)
 }
 
-fn print_lists(completions: &[u16], area: &mut [u8], sheet: &[u16]) {
+fn print_lists(
+    rt: &impl Print,
+    completions: &[u16],
+    area: &mut [u8],
+    sheet: &[u16],
+) -> io::Result<()> {
     // no choice
-    from_start(completions, area, sheet, [0, 0, 0, 0, 0, 0, 0, 0], 0);
+    from_start(rt, completions, area, sheet, [0, 0, 0, 0, 0, 0, 0, 0], 0)?;
     // a choice of 0, one too large, and one that there is
-    from_start(completions, area, sheet, [0, 2, 1, 0, 0, 0, 0, 0], 3);
+    from_start(rt, completions, area, sheet, [0, 2, 1, 0, 0, 0, 0, 0], 3)?;
     // a path of cost exactly 8, and a choice after the end
-    from_start(completions, area, sheet, [1, 2, 1, 1, 1, 1, 0, 0], 6);
+    from_start(rt, completions, area, sheet, [1, 2, 1, 1, 1, 1, 0, 0], 6)?;
     // a path of cost 9: diverted at the first branch from which it can no longer finish, and choices after the end
-    from_start(completions, area, sheet, [1, 1, 1, 2, 1, 1, 0, 0], 6);
+    from_start(rt, completions, area, sheet, [1, 1, 1, 2, 1, 1, 0, 0], 6)?;
     // a path of cost 5
-    from_start(completions, area, sheet, [1, 1, 1, 1, 1, 0, 0, 0], 5);
+    from_start(rt, completions, area, sheet, [1, 1, 1, 1, 1, 0, 0, 0], 5)
 }
 
-fn print_first() {
+fn print_first(rt: &impl Print) -> io::Result<()> {
     let completions = cheapest(&SHEET);
     let mut area = [7u8; 80];
     let mut sheet = [0u16; 40];
     build(&SHEET, 0, &mut area, &mut sheet);
-    print_lists(&completions, &mut area, &sheet);
+    print_lists(rt, &completions, &mut area, &sheet)?;
     let last = run_out(&sheet);
-    io::write_all(STDOUT_FILENO, b"first choices");
-    print_end(block_of(&sheet, last.place), last);
+    print!(rt; "first choices")?;
+    print_end(rt, block_of(&sheet, last.place), last)
 }
 
 // BY THE STARTS
 
 // One list with the k-th budget.
 fn with_budget(
+    rt: &impl Print,
     graph: &[u16],
     h: u16,
     completions: &[u16],
@@ -550,66 +550,88 @@ fn with_budget(
     k: u16,
     choices: [u16; 8],
     n: usize,
-) {
-    let m = outset(graph, h, completions, area, sheet, k);
-    print_list(graph, h, completions, area, sheet, m, choices, n);
+) -> io::Result<()> {
+    let m = outset(rt, graph, h, completions, area, sheet, k)?;
+    print_list(rt, graph, h, completions, area, sheet, m, choices, n)
 }
 
 // A path of cost 8 within 5 and within 9.
-fn list_two(completions: &[u16], area: &mut [u8], sheet: &[u16]) {
+fn list_two(
+    rt: &impl Print,
+    completions: &[u16],
+    area: &mut [u8],
+    sheet: &[u16],
+) -> io::Result<()> {
     let choices = [1, 2, 1, 1, 1, 0, 0, 0];
-    with_budget(&TWO, 0, completions, area, sheet, 1, choices, 5);
-    with_budget(&TWO, 0, completions, area, sheet, 2, choices, 5);
+    with_budget(rt, &TWO, 0, completions, area, sheet, 1, choices, 5)?;
+    with_budget(rt, &TWO, 0, completions, area, sheet, 2, choices, 5)
 }
 
-fn print_two() {
+fn print_two(rt: &impl Print) -> io::Result<()> {
     let completions = cheapest(&TWO);
     let mut area = [7u8; 80];
     let mut sheet = [0u16; 74];
     build(&TWO, 0, &mut area, &mut sheet);
-    list_two(&completions, &mut area, &sheet);
+    list_two(rt, &completions, &mut area, &sheet)
 }
 
 // Turn after turn of the loop: within 2 cycles, which divert before the first choice, and within 3, 7 and 9.
-fn list_four(completions: &[u16], area: &mut [u8], sheet: &[u16]) {
+fn list_four(
+    rt: &impl Print,
+    completions: &[u16],
+    area: &mut [u8],
+    sheet: &[u16],
+) -> io::Result<()> {
     let choices = [1, 1, 1, 2, 0, 0, 0, 0];
-    with_budget(&FOUR, 0, completions, area, sheet, 1, choices, 4);
-    with_budget(&FOUR, 0, completions, area, sheet, 2, choices, 4);
-    with_budget(&FOUR, 0, completions, area, sheet, 3, choices, 4);
-    with_budget(&FOUR, 0, completions, area, sheet, 4, choices, 4);
+    with_budget(rt, &FOUR, 0, completions, area, sheet, 1, choices, 4)?;
+    with_budget(rt, &FOUR, 0, completions, area, sheet, 2, choices, 4)?;
+    with_budget(rt, &FOUR, 0, completions, area, sheet, 3, choices, 4)?;
+    with_budget(rt, &FOUR, 0, completions, area, sheet, 4, choices, 4)
 }
 
-fn print_four() {
+fn print_four(rt: &impl Print) -> io::Result<()> {
     let completions = cheapest(&FOUR);
     let mut area = [7u8; 30];
     let mut sheet = [0u16; 51];
     build(&FOUR, 0, &mut area, &mut sheet);
-    list_four(&completions, &mut area, &sheet);
+    list_four(rt, &completions, &mut area, &sheet)
 }
 
 // Two turns and the exit, within 7 cycles and within 8; a third budget the sheet does not have.
-fn list_shared(completions: &[u16], area: &mut [u8], sheet: &[u16]) {
+fn list_shared(
+    rt: &impl Print,
+    completions: &[u16],
+    area: &mut [u8],
+    sheet: &[u16],
+) -> io::Result<()> {
     let choices = [1, 1, 2, 1, 0, 0, 0, 0];
-    with_budget(&SHARED, 0, completions, area, sheet, 1, choices, 4);
-    with_budget(&SHARED, 0, completions, area, sheet, 2, choices, 4);
-    outset(&SHARED, 0, completions, area, sheet, 3);
+    with_budget(rt, &SHARED, 0, completions, area, sheet, 1, choices, 4)?;
+    with_budget(rt, &SHARED, 0, completions, area, sheet, 2, choices, 4)?;
+    let _ = outset(rt, &SHARED, 0, completions, area, sheet, 3)?;
+    Ok(())
 }
 
-fn print_shared() {
+fn print_shared(rt: &impl Print) -> io::Result<()> {
     let completions = cheapest(&SHARED);
     let mut area = [7u8; 27];
     let mut sheet = [0u16; 30];
     build(&SHARED, 0, &mut area, &mut sheet);
-    list_shared(&completions, &mut area, &sheet);
+    list_shared(rt, &completions, &mut area, &sheet)
 }
 
 // WITH A HANDLER'S COST
 
 // Two turns and the exit, which cost 6, within 7 cycles and within 8, of which the handler takes h.
-fn list_handled(h: u16, completions: &[u16], area: &mut [u8], sheet: &[u16]) {
+fn list_handled(
+    rt: &impl Print,
+    h: u16,
+    completions: &[u16],
+    area: &mut [u8],
+    sheet: &[u16],
+) -> io::Result<()> {
     let choices = [1, 1, 2, 1, 0, 0, 0, 0];
-    with_budget(&SHARED, h, completions, area, sheet, 1, choices, 4);
-    with_budget(&SHARED, h, completions, area, sheet, 2, choices, 4);
+    with_budget(rt, &SHARED, h, completions, area, sheet, 1, choices, 4)?;
+    with_budget(rt, &SHARED, h, completions, area, sheet, 2, choices, 4)
 }
 
 // How many words a build filled, by the header of a bounded sheet of the second version; no more than the row has.
@@ -624,36 +646,43 @@ fn filled_words(sheet: &[u16]) -> usize
 }
 
 // The same on the words that a build filled.
-fn list_filled(h: u16, completions: &[u16], area: &mut [u8], row: &[u16]) {
+fn list_filled(
+    rt: &impl Print,
+    h: u16,
+    completions: &[u16],
+    area: &mut [u8],
+    row: &[u16],
+) -> io::Result<()> {
     let n = filled_words(row);
-    list_handled(h, completions, area, &row[..n]);
+    list_handled(rt, h, completions, area, &row[..n])
 }
 
-fn print_handled(h: u16) {
-    io::write_all(STDOUT_FILENO, b"handler");
-    number(wide(h));
-    io::write_all(STDOUT_FILENO, b"\n");
+fn print_handled(rt: &impl Print, h: u16) -> io::Result<()> {
+    print!(rt; "handler")?;
+    number(rt, wide(h))?;
+    println!(rt)?;
     let completions = cheapest(&SHARED);
     let mut area = [7u8; 27];
     let mut sheet = [0u16; 40];
     let answer = build(&SHARED, h, &mut area, &mut sheet);
-    io::write_all(STDOUT_FILENO, b"build");
-    number(wide(answer));
-    io::write_all(STDOUT_FILENO, b"\n");
+    print!(rt; "build")?;
+    number(rt, wide(answer))?;
+    println!(rt)?;
     if answer == 0 {
-        list_filled(h, &completions, &mut area, &sheet);
+        list_filled(rt, h, &completions, &mut area, &sheet)?;
     }
+    Ok(())
 }
 
-fn main() {
-    print_first();
-    print_two();
-    print_four();
-    print_shared();
+fn main(rt: HostRuntime) -> io::Result<()> {
+    print_first(&rt)?;
+    print_two(&rt)?;
+    print_four(&rt)?;
+    print_shared(&rt)?;
     // both budgets leave the two turns, the second alone, one turn, none; and more than the smallest budget
-    print_handled(1);
-    print_handled(2);
-    print_handled(4);
-    print_handled(6);
-    print_handled(8);
+    print_handled(&rt, 1)?;
+    print_handled(&rt, 2)?;
+    print_handled(&rt, 4)?;
+    print_handled(&rt, 6)?;
+    print_handled(&rt, 8)
 }

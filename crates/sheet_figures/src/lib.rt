@@ -1,5 +1,7 @@
 // What a report says of a sheet whose build is known: refused, cut, or with its bounded sheet at the front of a row.
 // Rests on headers, front, unused, sheet_lines; the promises are by calls Report and specs Says.
+#![tactic(auto)]
+
 ghost use Rattle.std.specs.Prelude.{◌≡◌, ◌≤◌, ◌<◌, length};
 ghost use Rattle.std.proofs.Math.Option.{none};
 ghost use Rattle.base.specs.Checks.{refused};

@@ -1,5 +1,7 @@
 // The line of a report for one sheet, accepted or refused, written into a lent row of bytes.
 // Rests on headers, digits, report_lines and margins; the promises say the whole row, by digits Wrote and formats Report.
+#![tactic(auto)]
+
 ghost use Rattle.std.specs.Prelude.{◌≡◌, ◌<◌, ◌≤◌, length};
 ghost use Rattle.formats.specs.Limits.{most_cells};
 ghost use Rattle.formats.specs.BoundedSheet.{heading};

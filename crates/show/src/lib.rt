@@ -1,5 +1,7 @@
 // A file as decimal words, or its refusal: below the decode program, which reads the file and writes the text.
 // Rests on kept, file_words, decimal and text; the text is `shown` of the whole file.
+#![tactic(auto)]
+
 ghost use Rattle.std.specs.Prelude.{◌≡◌, List, ℕ, ◌≤◌, ◌<◌, length};
 ghost use Rattle.formats.specs.File.{words_of};
 ghost use Rattle.digits.specs.Wrote.{Wrote};

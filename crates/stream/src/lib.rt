@@ -1,5 +1,7 @@
 // The end of a catalogue's report: the input is over, and then one closing part after the other. Below the report program.
 // Rests on framing and catalogue; for every catalogue, byte by byte, what is handed back is its report (proofs Bytes).
+#![tactic(auto)]
+
 ghost use Rattle.std.specs.Prelude.{◌≡◌, true, suc, ◌≤◌, ◌<◌, length};
 ghost use Rattle.formats.specs.Limits.{most_sheets};
 ghost use Rattle.sheet_lines.specs.Room.{sheet_room};

@@ -1,9 +1,9 @@
 -- The masks of the successors, block by block and successor by successor.
 -- Rests on masks Masks, specs Joined and Nexts.
 use mathlib.Core.Path.{◌≡◌, refl, sym, ap, subst, ◌∙◌}
-use mathlib.Core.Bool.{true, false}
+use mathlib.Core.Bool.{true}
 use mathlib.Core.List.{List, [], ◌∷◌, Memᴰ}
-use Prim.Native.Nat.{ℕ, zero, suc, ◌+◌, ◌*◌, ◌≤◌, ◌<◌}
+use Prim.Native.Nat.{ℕ, suc, ◌+◌, ◌*◌, ◌≤◌, ◌<◌}
 use native.Mathlib.Decide.{ℕ_discrete, dec_lt}
 use native.Mathlib.Numerals.{add-one}
 use native.Mathlib.Omega.{arith}
@@ -71,6 +71,7 @@ module _ {g : Graph} {n v : ℕ} where
   }
     where
       none : (xs : List ℕ) (t : ℕ) → length xs ≡ 0 → Memᴰ t xs → ⊥
+      none [] t e m = elim m [ ]
       none (x ∷ xs) t e m = omega arith
 
       go : (w t : ℕ) → w < v + 1 → Memᴰ t (g.next w) → Dec (w < v) → in_mask nexts w t ≡ true

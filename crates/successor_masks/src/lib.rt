@@ -1,5 +1,7 @@
 // The successors of each block of a graph row, as masks. Below the public calls.
 // Rests on graph_row and masks.
+#![tactic(auto)]
+
 ghost use Rattle.std.specs.Prelude.{◌+◌, ◌≤◌};
 ghost use Rattle.graph_row.specs.GraphRow.{blocks_in, graph_in, Flat};
 ghost use Rattle.successor_masks.specs.Nexts.{Nexts};

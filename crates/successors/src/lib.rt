@@ -1,5 +1,7 @@
 // A public call on a graph sheet: a block's number of successors.
 // Rests on words, headers, chains, graph_check; the promise is an equation with formats GraphSheet.
+#![tactic(auto)]
+
 ghost use Rattle.std.specs.Prelude.{◌≡◌, suc, ◌≤◌};
 ghost use Rattle.formats.specs.Limits.{most_edges};
 ghost use Rattle.formats.specs.GraphSheet.{header_of, Sound};

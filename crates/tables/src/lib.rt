@@ -1,5 +1,7 @@
 // The entries of a build's own rows, placed as cells, and the cells of a row in order. Below the public calls.
 // Rests on cells.
+#![tactic(auto)]
+
 ghost use Rattle.std.specs.Prelude.{◌≡◌, true, ◌+◌, ◌<◌, ◌≤◌, length, get_or, set};
 ghost use Rattle.base.specs.Cells.{cell_of, cell_count};
 ghost use Rattle.cells.specs.Cells.{Within};

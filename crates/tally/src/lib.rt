@@ -1,12 +1,14 @@
 // The totals of a report and the greatest copies to blocks, sheet by sheet.
 // Rests on nothing; the promises are equations with formats Report `plus` and `most_of`.
+#![tactic(auto)]
+
 ghost use Rattle.std.specs.Prelude.{◌≡◌, ◌*◌, ◌≤◌, ◌<◌};
 ghost use Rattle.formats.specs.Limits.{most_blocks, most_copies, most_bounded_edges, most_sheets};
 ghost use Rattle.formats.specs.Report.{no_sums, no_most, most_of};
 ghost use Rattle.tally.specs.Tallies.{sums_of, most_from, figured, Fits, Tallied};
 
 // The sheet with the greatest copies to blocks: its place, 0 for none, and the two numbers.
-#[derive(Drop)]
+#[derive(Clone, Copy)]
 pub struct Most {
     pub place: usize,
     pub copies: usize,
@@ -14,7 +16,7 @@ pub struct Most {
 }
 
 // How many sheets were seen, the sums of their blocks, copies and edges, and the greatest.
-#[derive(Drop)]
+#[derive(Clone, Copy)]
 pub struct Tally {
     pub place: usize,
     pub blocks: usize,

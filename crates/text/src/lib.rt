@@ -1,5 +1,7 @@
 // The text of a listing, written into a lent row of bytes.
 // Rests on headers, digits, heading_line and copy_line; the promises say the whole row, by digits Wrote and formats Listing.
+#![tactic(auto)]
+
 ghost use Rattle.std.specs.Prelude.{◌≡◌, ◌+◌, ◌≤◌, length};
 ghost use Rattle.formats.specs.Rule11.{bounded_refusal};
 ghost use Rattle.formats.specs.Listing.{listing_of, refusal_of};

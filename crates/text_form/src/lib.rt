@@ -1,5 +1,7 @@
 // Decimal words in a text, and the line that tells a fault of it: the definitions and their laws; what is counted, and what is a blank.
 // Rests on formats, digits, decimal and file_words; what decode writes reads back (proofs RoundTrip `round_trip`).
+#![tactic(auto)]
+
 ghost use Rattle.std.specs.Prelude.{◌≡◌};
 ghost use Rattle.text_form.specs.Reading.{next, blank};
 

@@ -135,7 +135,8 @@ module _ (S : Setting) (m : Bounded) (Y : LaysOut S m) where
       move u s h k =
           let go : (o : Option (Option Copy)) → chosen (targets g u.copy) k ≡ o
           → Alike (copy_walk g) (bounded_walk m) Sits u s o (map (target_number cs) o)
-          = λ o. elim o [ none ↦ λ e. neither | some x ↦ λ e. both (sits-take u s h x (chosen-mem (targets g u.copy) k x e)) ] in
+          = λ o. elim o as (λ (o : Option (Option Copy)). chosen (targets g u.copy) k ≡ o
+          → Alike (copy_walk g) (bounded_walk m) Sits u s o (map (target_number cs) o)) [ none ↦ λ e. neither | some x ↦ λ e. both (sits-take u s h x (chosen-mem (targets g u.copy) k x e)) ] in
           rw (Y.next s.place u.copy h.place, chosen-map (target_number cs) (targets g u.copy) k)
           (go (chosen (targets g u.copy) k) refl)
 

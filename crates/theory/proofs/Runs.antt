@@ -30,6 +30,8 @@ module _ {S X U Y : Type 0} (m : Machine S X) (n : Machine U Y) (R : S → U →
       where
         pair : (o : Option X) (p : Option Y) → Alike s u o p → Agree s u (taken m s o) (taken n u p)
         pair none none neither = record { answer = refl; after = h }
+        pair none (some y) a = elim a [ ]
+        pair (some x) none a = elim a [ ]
         pair (some x) (some y) (both q) = record { answer = refl; after = q }
 
         go : (e : End) → m.stands s ≡ e → Agree s u (reply_at m e s k) (reply_at n e u k)

@@ -1,5 +1,7 @@
 // The blocks that no copy of a bounded sheet has, as a row of marks.
 // Rests on words, headers; the promise is an equation with formats Report `unused_blocks`.
+#![tactic(auto)]
+
 ghost use Rattle.std.specs.Prelude.{◌≡◌, not, suc, ◌≤◌, ◌<◌, eqb, leb, length};
 ghost use Rattle.formats.specs.Limits.{most_blocks};
 ghost use Rattle.formats.specs.Rule11.{bounded_refusal};

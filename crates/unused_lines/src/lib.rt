@@ -1,5 +1,7 @@
 // The lines of a report for a sheet's unused blocks, written into a lent row of bytes.
 // Rests on digits, unused and report_lines; the promises say the whole row, by digits Wrote and formats Report.
+#![tactic(auto)]
+
 ghost use Rattle.std.specs.Prelude.{◌≡◌, ◌+◌, ◌<◌, ◌≤◌, length};
 ghost use Rattle.base.specs.Lists.{each};
 ghost use Rattle.formats.specs.Limits.{most_blocks};

@@ -1,19 +1,21 @@
 // The walk: a place, a count, an end and the number of a budget, its starting values, and the test of its shape.
 // Rests on nothing; what a walk stands for is said by specs Walks, over theory Walks and calls Moves.
+#![tactic(auto)]
+
 ghost use Rattle.std.specs.Prelude.{◌≡◌, ◌<◌, eqb};
 ghost use Rattle.theory.specs.Machines.{diverted};
 ghost use Rattle.theory.specs.Walks.{start_at, stopped, is_exit, has_ended, end_at, most_moves};
 ghost use Rattle.calls.specs.Moves.{budgeted, starting_walk, out_of_shape};
 ghost use Rattle.walk.specs.Walks.{end_of, state_of, walk_of, apart};
 
-#[derive(Drop)]
+#[derive(Clone, Copy)]
 pub enum End {
     Going,
     Exit,
     Diverted,
 }
 
-#[derive(Drop)]
+#[derive(Clone, Copy)]
 pub struct Walk {
     pub place: u16,
     pub count: u16,

@@ -1,5 +1,7 @@
 // A walk as a row of four words, as it crosses to C and Rust: read and written.
 // Rests on walk; what four words stand for is said by specs WalkWords.
+#![tactic(auto)]
+
 ghost use Rattle.std.specs.Prelude.{◌≡◌};
 ghost use Rattle.walk.specs.Walks.{end_of, walk_of};
 ghost use Rattle.walk_words.specs.WalkWords.{end_in, end_word, walk_in, walk_words};

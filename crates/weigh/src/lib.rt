@@ -1,5 +1,7 @@
 // The completion table of a graph in one row, in the work area, by rising costs. Below the public calls.
 // Rests on graph_row, successor_masks and block_cost; the promise is calls Area, "a work area that was filled".
+#![tactic(auto)]
+
 ghost use Rattle.std.specs.Prelude.{◌≡◌, ◌+◌, ◌*◌, ◌≤◌, length};
 ghost use Rattle.calls.specs.Area.{filled};
 ghost use Rattle.graph_row.specs.GraphRow.{blocks_in, graph_in, Flat};

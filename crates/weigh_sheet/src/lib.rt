@@ -1,5 +1,7 @@
 // A public call: conditions 1 to 8, 41 and 43, 21 and 9 in order, and the work area filled where those before 9 pass. Its two halves serve builds,
 // moves and starts. Rests on graph_check, headers, lowered, flatten, weigh and look; the promise is calls Weigh.
+#![tactic(auto)]
+
 ghost use Rattle.std.specs.Prelude.{◌≡◌, true, false, ◌+◌, ◌*◌, ◌≤◌, length};
 ghost use Rattle.base.specs.Checks.{refused};
 ghost use Rattle.formats.specs.Limits.{most_budget};

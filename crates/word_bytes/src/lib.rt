@@ -1,5 +1,7 @@
 // The word that is being read: its value so far, whether there is room for it, and its bytes, written when it is done.
 // Rests on text_form and file_bytes.
+#![tactic(auto)]
+
 ghost use Rattle.std.specs.Prelude.{◌≡◌, ◌&&◌, ◌+◌, ◌<◌, ◌≤◌, ltb, length};
 ghost use Rattle.formats.specs.Limits.{word_limit};
 ghost use Rattle.formats.specs.File.{bytes_of};

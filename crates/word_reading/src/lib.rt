@@ -1,5 +1,7 @@
 // How far a text has been read, and a byte of a word.
 // Rests on text_form, fault_line and word_bytes.
+#![tactic(auto)]
+
 ghost use Rattle.std.specs.Prelude.{◌≡◌, List, ℕ, ◌<◌};
 ghost use Rattle.text_form.specs.Reading.{next, word_byte};
 ghost use Rattle.word_reading.specs.Held.{Able, Turns};
@@ -14,7 +16,7 @@ const DIGIT_NINE: u8 = 57;
 
 // How far a text has been read: the bytes written, the line and the column of the byte that comes next, the mode, the first fault and what was
 // found there. After a fault the line and the column are the fault's.
-#[derive(Drop)]
+#[derive(Clone, Copy)]
 pub struct Reading {
     pub size: usize,
     pub line: usize,

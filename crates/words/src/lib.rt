@@ -1,5 +1,7 @@
 // The words of a row, by place and by record, and the limits of both kinds of sheet; below the public calls.
 // Rests on formats: Limits, Words.
+#![tactic(auto)]
+
 ghost use Rattle.std.specs.Prelude.{◌≡◌, ◌||◌, ◌+◌, ◌*◌, ◌<◌, ◌≤◌, length};
 ghost use Rattle.base.specs.Checks.{outside};
 ghost use Rattle.formats.specs.Limits.{word_limit};

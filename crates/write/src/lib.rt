@@ -1,5 +1,7 @@
 // The records of the bounded sheet, for the marked copies in order. Below the public calls.
 // Rests on graph_row, tables, put_words, chain_records.
+#![tactic(auto)]
+
 ghost use Rattle.std.specs.Prelude.{◌≡◌, ◌+◌, ◌*◌, ◌≤◌, length};
 ghost use Rattle.theory.specs.Completions.{low_of};
 ghost use Rattle.formats.specs.Limits.{most_copies, most_bounded_edges};

@@ -1,0 +1,23 @@
+-- What is said of the sheet goes into the tally and into its part of the marks.
+use Rattle.std.proofs.Common.{◌∙◌, ◌+◌, ◌*◌, ◌≤◌, arith, rules, length}
+use Rattle.base.proofs.Lists.{part_length}
+use Rattle.formats.specs.Limits.{most_blocks}
+use Rattle.catalogue.proofs.Stands.{next_of}
+use Rattle.catalogue.proofs.next_sheet.Goals as goal
+
+pub returns : goal.returns
+returns c =
+    let t = c.args.tally in
+    let old = c.args.marks.now in
+    let R = c.requires.ready.0 in
+    let l = c.requires.ready.1 in
+    let inside : t.place * most_blocks + most_blocks ≤ length old = omega (arith, R.room, l) in
+    record {
+      ready_2 = (
+        record { most = omega (arith, c.with_sheet-next.ensures.tallied.place, l); fits = c.with_sheet-next.ensures.fits; room = (search rules) ∙ R.room },
+        c.report_item-r.ensures.size_in_bounds.0,
+        omega (arith, c.with_sheet-next.ensures.tallied.place),
+      );
+      next = next_of t _ c.report_item-r.result old _ _ c.with_sheet-next.ensures.tallied (omega (arith, inside))
+          (c.report_item-r.auto.marks ∙ part_length (t.place * most_blocks) most_blocks old inside) c.report_item-r.ensures.reports c.may_come-more.ensures;
+    }

@@ -1,0 +1,16 @@
+-- `guarded_moves::guarded_move` meets its contract: the front first, then the rest.
+use Rattle.std.proofs.Common.{sym, ◌∙◌}
+use Rattle.calls.proofs.Weigh.{front-passes}
+use Rattle.walk.specs.Walks.{walk_of}
+use Rattle.weigh_sheet.proofs.Answers.{front-refused}
+use Rattle.guarded_moves.proofs.Answers.{weigh-refused}
+use Rattle.guarded_moves.proofs.guarded_move.Goals as goal
+
+pub returns-then-a-ne0 : goal.returns-then-a-ne0
+returns-then-a-ne0 c =
+    let a = c.args in
+    let whole = weigh-refused a.s.now a.h a.area.now (walk_of a.w) a.choice (front-refused _ _ _ c.front-a.ensures c.if-a-ne0.true) c.if-a-ne0.true in
+    record { answer_value = whole.0; walk_value = whole.1.0; area_after = whole.1.1 }
+
+pub guard-requires : goal.guard-requires
+guard-requires c = front-passes _ (sym c.front-a.ensures ∙ c.if-a-ne0.false)
