@@ -109,15 +109,26 @@ pub fn print_error<W: Write>(writer: &mut W, text: &[u8]) -> Result<(), Failure>
     writer.write_all(text).map_err(Failure::Errors)
 }
 
+// Says a failure: the reason in the system's words, without the number that std writes behind them, unless memory is out.
+fn say(rt: &(impl Eprint + AllocGlobal), failure: &Failure) -> io::Result<()> {
+    let Ok(said) = format!(in rt.alloc(); "{failure}") else {
+        return eprintln!(rt; "{failure}");
+    };
+    match said.split_once(" (os error ") {
+        Some((words, _)) => eprintln!(rt; "{words}"),
+        None => eprintln!(rt; "{said}"),
+    }
+}
+
 // How a program ends: a failure is said on standard error, with the reason.
-pub fn ending(rt: &impl Eprint, done: Result<(), Failure>) -> ExitCode
+pub fn ending(rt: &(impl Eprint + AllocGlobal), done: Result<(), Failure>) -> ExitCode
     ensures ok { OnOk done (exit_status result ≡ 0) }
     ensures err { OnErr done (exit_status result ≡ 1) }
 {
     match done {
         Ok(()) => ExitCode::SUCCESS,
         Err(failure) => {
-            let _ = eprintln!(rt; "{failure}");
+            let _ = say(rt, &failure);
             ExitCode::FAILURE
         }
     }
