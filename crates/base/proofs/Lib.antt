@@ -1,8 +1,8 @@
--- tests: and-i, and-e, or-e, any-i, any-e, all-e, ..
+-- tests: and_i, and-e, or-e, any-i, any-e, all-e, ..
 pub mod Truth
 -- members, choices, numbers in a row, the room of a row of zeros
 pub mod Lists
--- numbers that rise, the last and the k-th of a list: last-most, nth-in
+-- numbers that rise, the last and the k-th of a list: last-most, nth_in
 pub mod Numbers
 -- the order of copies, and their places in a rising list
 pub mod Copies
@@ -14,5 +14,5 @@ pub mod Pigeonhole
 pub mod Search
 -- an option as a number: option-none, option-some
 pub mod Options
--- cells: cell-inside, cell-rises, count-rises, one-cell, cell-of
+-- cells: cell-inside, cell-rises, count-rises, one_cell, cell-of
 pub mod Cells

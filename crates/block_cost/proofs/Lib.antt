@@ -1,6 +1,6 @@
 -- The laws of one cost.
 -- Rests on base, theory, calls, cells, masks.
--- the cells of an area that is ready: cell, ready-on
+-- the cells of an area that is ready: cell, ready_on
 pub mod Cells
 -- a cell set, the exit's alone: wrote-fair, begun-fair
 pub mod Written

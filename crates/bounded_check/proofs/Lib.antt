@@ -1,8 +1,8 @@
--- the start copies, counted by a loop: one-more; kept-order, records-lead, starts-are, start-copies
+-- the start copies, counted by a loop: one_more; kept-order, records-lead, starts-are, start-copies
 pub mod Starts
 -- rule 11 in its parts: form-is, header-there, answer-read; records-bad, exits-bad, entries-left
 pub mod Rule
--- the exit behind the start copies: starts-alone, other-block, exit-low, exit-chain, one-exit, second-tells
+-- the exit behind the start copies: starts-alone, other_block, exit-low, exit-chain, one-exit, second-tells
 pub mod Exit
 -- the budgets and the entries as parts of the sheet: part-lengths, parts-say
 pub mod Header

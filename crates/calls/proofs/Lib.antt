@@ -1,6 +1,6 @@
--- an accepted graph sheet has a well-formed graph: well-formed, settingAt
+-- an accepted graph sheet has a well-formed graph: well-formed, setting_with
 pub mod SheetLaws
--- a setting's rows, behind any header: lays-out, rows-fit
+-- a setting's rows, behind any header: lays-out, rows_fit
 pub mod SettingRows
 -- the sheet of an accepted build lays its copies out and keeps rule 11: sheet-lays-out, keeps-rule, words-fit-16
 pub mod Built
@@ -26,5 +26,5 @@ pub mod Unused
 pub mod Margins
 -- and the greatest: report-greatest
 pub mod Greatest
--- no copy but the start's is reached from itself: falls-by, few-moves, no-loop
+-- no copy but the start's is reached from itself: falls-by, few-moves, no_loop
 pub mod Unrolled

@@ -1,2 +1,2 @@
--- a copy by what its tests say: copy-is
+-- a copy by what its tests say: copy_is
 pub mod BadCopy

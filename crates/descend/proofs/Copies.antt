@@ -1,4 +1,4 @@
--- Copies of a flat row's graph within a budget: where they lie, that their lows cover their blocks, and the look_up by its row.
+-- Copies of a flat row's graph within a budget: where they lie, that their lows cover their blocks, and the look-up by its row.
 -- Rests on base Options and Cells, theory Completions and Counts, graph_row Laws, cells Cells, specs Marks.
 use mathlib.Core.Path.{◌≡◌, refl, sym, ap, ◌∙◌}
 use mathlib.Core.List.{List, []}

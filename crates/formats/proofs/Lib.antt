@@ -17,13 +17,13 @@ pub mod RuleWords
 pub mod RuleRead
 -- on a sheet of the first version the rule is document 01's: one-start, targets-behind-one
 pub mod FirstVersion
--- every word of such a sheet fits 16 bits: words-fit; two-bytes
+-- every word of such a sheet fits 16 bits: words-fit; two_bytes
 pub mod WordsFit
--- the edge words handed out are those of the copy's chain: handed-out
+-- the edge words handed out are those of the copy's chain: handed_out
 pub mod Parts
 -- words as a file's bytes: bytes-append, bytes-length
 pub mod Files
 -- the rows of refusals: pinned
 pub mod Rows
--- the fold of a report's figures finds the greatest fraction, the earliest of equal ones: greatest, one-line
+-- the fold of a report's figures finds the greatest fraction, the earliest of equal ones: greatest, one_line
 pub mod Greatest

@@ -2,9 +2,9 @@
 -- Rests on base, theory, formats, calls, graph_row, tables, weigh_sheet, walk.
 -- the chosen successor, by its number in a row: no-choice, choice-fits, choice-is
 pub mod Choices
--- the monitor's reply, case by case: ended, unchosen, count-fits, diverts, enters
+-- the monitor's reply, case by case: ended, unchosen, count_fits, diverts, enters
 pub mod Replies
--- what moves and starts have of a weighed sheet: passed, late, sheet-table, area-table; of a budget by its number: number-is, counted, listed, within
+-- what moves and starts have of a weighed sheet: passed, late, sheet-table, area-table; of a budget by its number: number_is, counted, listed, within
 pub mod Weighed
 -- what the call answers where the sheet is refused, where the budget or the walk is out of shape, and where the monitor replies
 pub mod Answers

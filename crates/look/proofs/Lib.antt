@@ -2,5 +2,5 @@
 pub mod Scan
 -- a cell stored into a row: stored, others-kept
 pub mod Stored
--- the rows, one number and one block after the other: row-on, row-end, rows-on, rows-end
+-- the rows, one number and one block after the other: row_on, row-end, rows_on, rows_end
 pub mod Rows

@@ -1,2 +1,2 @@
--- what is said of a refused and of an accepted sheet: refused-says, accepted-says, accepted-small
+-- what is said of a refused and of an accepted sheet: refused_says, accepted-says, accepted-small
 pub mod Said

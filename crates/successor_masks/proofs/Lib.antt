@@ -2,5 +2,5 @@
 -- Rests on base, theory, graph_row, masks.
 -- a flat row's graph: joined
 pub mod Flat
--- the masks of the successors: Listed, listed-none, listed-next, listed-all, nexts-none
+-- the masks of the successors: Listed, listed-none, listed_next, listed-all, nexts-none
 pub mod Successors

@@ -1,4 +1,4 @@
--- the listing by its lines, and a refusal: listing-is, refusal-is
+-- the listing by its lines, and a refusal: listing-is, refusal_is
 pub mod Lines
 -- what rule 11 gives, number by number: block-most, low-most, target-most, readable
 pub mod Kept

@@ -1,13 +1,13 @@
 -- the test of a completion cost is exactly the completions, the look-up gives the largest, the key lemma:
--- completes-sound, completes-complete, low-some, low-none, same-low
+-- completes-sound, completes-complete, low-some, low-none, same_low
 pub mod Completions
 -- the monitor is document 01's watch, sentence by sentence: monitor-acts
 pub mod Monitor
--- machines that keep a relation answer alike: agree-all, runs-as
+-- machines that keep a relation answer alike: agree-all, runs_as
 pub mod Runs
 -- the monitor and the walk over copies: follows-all
 pub mod Simulation
--- a walk over copies ends within one move more than its budget and is never stuck: timely-all, early, never-stuck
+-- a walk over copies ends within one move more than its budget and is never stuck: timely-all, early, never_stuck
 pub mod Counts
 -- the monitor counts the cycles of the blocks that it enters: monitor-cycles
 pub mod Cycles
@@ -21,7 +21,7 @@ pub mod Order
 pub mod Agreement
 -- no walk from an entry gets out of shape: monitor-kept, held-shape
 pub mod Shape
--- a completion cost by the costs of the successors: at-exit, too-dear, by-next
+-- a completion cost by the costs of the successors: at_exit, too-dear, by_next
 pub mod Step
 -- a block has a copy exactly where a kept path enters it: used
 pub mod Used

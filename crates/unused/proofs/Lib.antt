@@ -1,4 +1,4 @@
--- a mark behind a write: marked-same, marked-other
+-- a mark behind a write: marked-same, marked_other
 pub mod Writes
 -- the loop over the blocks: Filling
 pub mod Filling
