@@ -11,12 +11,16 @@ ghost use Rattle.input.specs.Answers.{piece_of, wrote_of};
 ghost use Rattle.input.specs.Failed.{OfInput, OfOutput, OfErrors, Front};
 
 use kept::{Kept, keep, nothing};
+use std::fmt::InlineText;
 use std::io::{Read, Write};
 use std::process::ExitCode;
 use std::{fmt, io};
 
 // How many bytes are asked for at once.
 pub const PIECE: usize = 65536;
+
+// The room of what is said of a failure: a stream's name, and a reason of 80 bytes at most, with its number.
+const SAID_SIZE: usize = 128;
 
 // Which of the streams failed, and why.
 #[derive(Debug, Drop)]
@@ -109,26 +113,24 @@ pub fn print_error<W: Write>(writer: &mut W, text: &[u8]) -> Result<(), Failure>
     writer.write_all(text).map_err(Failure::Errors)
 }
 
-// Says a failure: the reason in the system's words, without the number that std writes behind them, unless memory is out.
-fn say(rt: &(impl Eprint + AllocGlobal), failure: &Failure) -> io::Result<()> {
-    let Ok(said) = format!(in rt.alloc(); "{failure}") else {
-        return eprintln!(rt; "{failure}");
-    };
-    match said.split_once(" (os error ") {
+// Says a failure: the reason in the system's words, without the number that std writes behind them.
+fn say(rt: &impl Eprint, failure: Failure) -> io::Result<()> {
+    let said = InlineText::<SAID_SIZE>::of(failure);
+    match said.as_str().split_once(" (os error ") {
         Some((words, _)) => eprintln!(rt; "{words}"),
-        None => eprintln!(rt; "{said}"),
+        None => eprintln!(rt; "{}", said.as_str()),
     }
 }
 
 // How a program ends: a failure is said on standard error, with the reason.
-pub fn ending(rt: &(impl Eprint + AllocGlobal), done: Result<(), Failure>) -> ExitCode
+pub fn ending(rt: &impl Eprint, done: Result<(), Failure>) -> ExitCode
     ensures ok { OnOk done (exit_status result ≡ 0) }
     ensures err { OnErr done (exit_status result ≡ 1) }
 {
     match done {
         Ok(()) => ExitCode::SUCCESS,
         Err(failure) => {
-            let _ = say(rt, &failure);
+            let _ = say(rt, failure);
             ExitCode::FAILURE
         }
     }
