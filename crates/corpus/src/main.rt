@@ -1,5 +1,5 @@
 // Lists every sheet of a corpus on standard input, each preceded by a word with its length in words.
-// Rests on list; what it writes is compared with the reference's listings by the gate.
+// Rests on list and input; what it writes is compared with the reference's listings by the gate.
 #![tactic(auto)]
 
 ghost use Rattle.std.specs.Prelude.{◌<◌, ◌≤◌, length, IfOk, IfErr};
