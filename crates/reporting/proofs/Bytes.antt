@@ -1,5 +1,5 @@
 -- What comes and what is written, byte by byte through a piece, piece by piece, and at the end.
--- Rests on kept More, framing Came and Feeding, stream Ends, specs Taken and Printed.
+-- Rests on kept More, framing Came and Feeding, specs Taken and Printed.
 use Rattle.std.proofs.Common.{◌≡◌, false, Some, None, IfSome, ap, ◌∙◌, append_assoc, List, ◌++◌, ℕ, ◌+◌, ◌<◌, ◌≤◌, length, get_or, take, subst, sym, append-nil}
 use Rattle.std.proofs.KnownBytes.{Appends-trans}
 use Rattle.std.specs.Io.KnownBytes.{Appends, Consumes}
