@@ -1,16 +1,15 @@
 -- What comes and what is written, byte by byte through a piece, piece by piece, and at the end.
--- Rests on kept More, framing Came and Feeding, specs Taken and Printed.
-use Rattle.std.proofs.Common.{◌≡◌, false, Some, None, IfSome, ap, ◌∙◌, append_assoc, List, ◌++◌, ℕ, ◌+◌, ◌<◌, ◌≤◌, length, get_or, take, subst, sym, append-nil}
+-- Rests on kept More, framing Feeding, stream Ends, specs Taken and Printed.
+use Rattle.std.proofs.Common.{◌≡◌, false, Some, None, IfSome, List, ℕ, ◌+◌, ◌<◌, ◌≤◌, length, get_or, take, subst, sym, append-nil}
 use Rattle.std.proofs.KnownBytes.{Appends-trans}
 use Rattle.std.specs.Io.KnownBytes.{Appends, Consumes}
 use Rattle.std.specs.Prelude.{Option, Result, Ok, Err, OnErr}
 use lib.Seq.{take_all}
-use Rattle.base.proofs.Truth.{not-both}
 use Rattle.kept.proofs.More.{bytes_next}
 use Rattle.framing.specs.declared.Progress.{Progress}
 use Rattle.framing.specs.declared.Handed.{Handed}
-use Rattle.framing.specs.Came.{Came}
 use Rattle.framing.specs.Feeding.{Feeds}
+use Rattle.stream.proofs.Ends.{behind}
 use Rattle.reporting.specs.Taken.{Taken, Takes}
 use Rattle.reporting.specs.Printed.{Printed, Prints}
 
@@ -50,23 +49,11 @@ pub at_err : {T E P : Type 0} (r : Result T E) → P → OnErr r P
 at_err (Ok x) p = tt
 at_err (Err e) p = p
 
--- WHERE NO SHEET MAY COME nothing that comes matters
-came_behind : {xs said : List ℕ} {s : Progress} {row marks : List ℕ} → Came xs said s row marks → s.more ≡ false → (ys : List ℕ) → Came (xs ++ ys) said s row marks
-came_behind C f ys =
-    record {
-      front = C.front;
-      rest = C.rest ++ ys;
-      bodies = C.bodies;
-      cut = ap (λ (w : List ℕ). w ++ ys) C.cut ∙ append_assoc C.front C.rest ys;
-      sheets = C.sheets;
-      going = λ g. absurd (not-both g f);
-      full = C.full;
-    }
-
+-- where no sheet may come nothing that comes matters
 pub printed_all : (a b : Option (List ℕ)) (came : List ℕ) {before now : Option (List ℕ)} {s : Progress} {row marks : List ℕ} → Consumes a b came
     → Printed came before now s row marks → s.more ≡ false → IfSome a (λ xs. Printed xs before now s row marks)
 printed_all None b came c P f = tt
 printed_all (Some xs) None came c P f = absurd c
 printed_all (Some xs) (Some ys) came {before} {now} {s} {row} {marks} c P f =
     subst (λ (w : List ℕ). Printed w before now s row marks) (sym c)
-    (record { said = P.said; came = came_behind P.came f ys; written = P.written })
+    (record { said = P.said; came = behind P.came f ys; written = P.written })

@@ -150,7 +150,7 @@ closed-report {xs} {c = c} C m =
 
 -- AFTER 200 SHEETS nothing that comes matters
 
-behind : {xs said : List ℕ} {s : Progress} {row marks : List ℕ} → Came xs said s row marks → s.more ≡ false → (ys : List ℕ) → Came (xs ++ ys) said s row marks
+pub behind : {xs said : List ℕ} {s : Progress} {row marks : List ℕ} → Came xs said s row marks → s.more ≡ false → (ys : List ℕ) → Came (xs ++ ys) said s row marks
 behind H f ys =
     record {
       front = H.front;
