@@ -99,13 +99,12 @@ module _ {g : Graph} {n b : ℕ} {nexts has area : List ℕ} (K : Kept g n b nex
     pub unmet : (Common has (c - own) nexts v → ⊥) → completes g v c ≡ true → ⊥
     unmet n m = n (onward (completes-sound g K.fair.ready.graph.laws v c m) refl refl).1
 
--- THE EXIT'S COST 0 ALONE, of m blocks
-pub mirror-begun : {g : Graph} {n b : ℕ} {has area : List ℕ} → Ready g n b area → {m : ℕ} → m ≡ n → Empty has × (2 * b + 2 ≤ length has)
-    → {mid after has' : List ℕ} → mid ≡ cleared m b area → after ≡ with_cell mid (cell_of b 2 0) → stands b after 2 0 ≡ true → Put 0 2 has has'
+-- THE EXIT'S COST 0 ALONE
+pub mirror-begun : {g : Graph} {n b : ℕ} {has area : List ℕ} → Ready g n b area → Empty has × (2 * b + 2 ≤ length has)
+    → {mid after has' : List ℕ} → mid ≡ cleared n b area → after ≡ with_cell mid (cell_of b 2 0) → stands b after 2 0 ≡ true → Put 0 2 has has'
     → Mirror n b has' after
 unfolding Empty
-mirror-begun {g} {n} {b} {has} {area} S i p {mid} o s e P =
-    let q : mid ≡ cleared n b area = o ∙ ap (λ (x : ℕ). cleared x b area) i in
+mirror-begun {g} {n} {b} {has} {area} S p {mid} q s e P =
     let R = ready_on S (ap length q ∙ (cleared-filling n b area S.room).same) in
     let M : Mirror n b has mid
     = record { room = p.1; cells = λ t c j k l. p.0 c t ∙ sym (ap (λ (a : List ℕ). stands b a t c) q ∙ cleared-stands n b area S.room t c j k l) } in

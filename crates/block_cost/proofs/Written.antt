@@ -11,10 +11,8 @@ use Rattle.base.specs.Cells.{cell_of}
 use Rattle.base.proofs.Truth.{not-both}
 use Rattle.theory.specs.Completions.{Graph, exit, completes}
 use Rattle.theory.proofs.Completions.{completes-complete}
-use Rattle.formats.specs.Limits.{most_blocks, most_budget}
-use Rattle.calls.specs.Area.{area_size, stands, HasCell, with_cell, cleared, Filling}
+use Rattle.calls.specs.Area.{stands, HasCell, with_cell, cleared, Filling}
 use Rattle.calls.proofs.Area.{cleared-filling, cleared-stands, set-length, set-filling, set-stands, set-others, set-stays}
-use Rattle.cells.specs.Cells.{Within}
 use Rattle.block_cost.specs.States.{Ready, Fair}
 use Rattle.block_cost.proofs.Cells.{cell, ready_on}
 
@@ -50,39 +48,32 @@ module _ {g : Graph} {n b : ℕ} {area after : List ℕ} (S : Ready g n b area)
   pub wrote-fair : stands b after 2 0 ≡ true → Fair g n b after
   wrote-fair e = record { ready = ready_on S wrote-same; exit = e; cells = wrote-cells }
 
--- THE EXIT'S CELL ALONE, of m blocks
-module _ {g : Graph} {n b : ℕ} {area : List ℕ} (S : Ready g n b area) {m : ℕ} (i : m ≡ n) where
-  pub clear-fits : (m ≤ most_blocks) × (b ≤ most_budget) × (area_size m b ≤ length area)
-  clear-fits = rw i (S.graph.blocks.1, S.budget, S.room)
+-- THE EXIT'S CELL ALONE
+module _ {g : Graph} {n b : ℕ} {area : List ℕ} (S : Ready g n b area) {mid : List ℕ} (q : mid ≡ cleared n b area) where
+  clear-filling : Filling n b area mid
+  clear-filling = rw q (cleared-filling n b area S.room)
 
-  module _ {mid : List ℕ} (o : mid ≡ cleared m b area) where
-    is-cleared : mid ≡ cleared n b area
-    is-cleared = o ∙ ap (λ (x : ℕ). cleared x b area) i
+  clear-ready : Ready g n b mid
+  clear-ready = ready_on S clear-filling.same
 
-    clear-filling : Filling n b area mid
-    clear-filling = rw is-cleared (cleared-filling n b area S.room)
+  clear-cells : (v c : ℕ) → 1 ≤ v → v ≤ n → c ≤ b → stands b mid v c ≡ true → completes g v c ≡ true
+  clear-cells v c p k l e =
+      absurd (not-both e (ap (λ (a : List ℕ). stands b a v c) q ∙ cleared-stands n b area S.room v c p k l))
 
-    clear-ready : Ready g n b mid
-    clear-ready = ready_on S clear-filling.same
+  exit-block : (1 ≤ 2) × (2 ≤ n)
+  exit-block = (omega arith, S.graph.blocks.0)
 
-    clear-cells : (v c : ℕ) → 1 ≤ v → v ≤ n → c ≤ b → stands b mid v c ≡ true → completes g v c ≡ true
-    clear-cells v c p k l e =
-        absurd (not-both e (ap (λ (a : List ℕ). stands b a v c) is-cleared ∙ cleared-stands n b area S.room v c p k l))
+  exit-completes : completes g 2 0 ≡ true
+  exit-completes = completes-complete g S.graph.laws exit
 
-    exit-block : (1 ≤ 2) × (2 ≤ n)
-    exit-block = (omega arith, S.graph.blocks.0)
+  pub exit-fits : HasCell mid (cell_of b 2 0)
+  exit-fits = cell clear-ready 2 0 exit-block (omega arith)
 
-    exit-completes : completes g 2 0 ≡ true
-    exit-completes = completes-complete g S.graph.laws exit
+  module _ {after : List ℕ} (s : after ≡ with_cell mid (cell_of b 2 0)) where
+    pub begun-filling : Filling n b area after
+    begun-filling = wrote-filling clear-ready clear-cells 2 0 exit-block (omega arith) exit-completes s area clear-filling
 
-    pub exit-fits : Within b 2 0 × HasCell mid (cell_of b 2 0)
-    exit-fits = cell clear-ready 2 0 exit-block (omega arith)
-
-    module _ {after : List ℕ} (q : after ≡ with_cell mid (cell_of b 2 0)) where
-      pub begun-filling : Filling n b area after
-      begun-filling = wrote-filling clear-ready clear-cells 2 0 exit-block (omega arith) exit-completes q area clear-filling
-
-      pub begun-fair : Fair g n b after
-      begun-fair =
-          let e = wrote-here clear-ready clear-cells 2 0 exit-block (omega arith) exit-completes q in
-          wrote-fair clear-ready clear-cells 2 0 exit-block (omega arith) exit-completes q e
+    pub begun-fair : Fair g n b after
+    begun-fair =
+        let e = wrote-here clear-ready clear-cells 2 0 exit-block (omega arith) exit-completes s in
+        wrote-fair clear-ready clear-cells 2 0 exit-block (omega arith) exit-completes s e

@@ -6,56 +6,54 @@ ghost use Rattle.std.specs.Prelude.{◌≡◌, ◌≢◌, true, ℕ, ◌+◌, �
 ghost use mathlib.Core.List.{Memᴰ};
 ghost use Rattle.theory.specs.Completions.{completes};
 ghost use Rattle.calls.specs.Area.{stands, Filling};
-ghost use Rattle.graph_row.specs.GraphRow.{blocks_in, graph_in, Flat};
+ghost use Rattle.graph_row.specs.GraphRow.{blocks_in, graph_in};
 ghost use Rattle.masks.specs.Masks.{Empty};
 ghost use Rattle.block_cost.specs.States.{Ready, Fair, Wider};
 ghost use Rattle.block_cost.specs.Masked.{Mirror, Kept};
 
-use cells::{clear_cells, set_cell};
-use graph_row::{blocks_in, cost_in};
+use cells::{Layout, clear_cells, set_cell};
+use graph_row::Graph;
 use masks::{meet, put};
 
-// Only the exit's cost 0 is set.
-pub fn begin(row: &[u16], has: &mut [u64], area: &mut [u8], b: usize)
-    requires flat { Flat row.now }
-    requires ready { Ready (graph_in row.now) (blocks_in row.now) b area.old }
-    requires empty { Empty has.old × (2 * b + 2 ≤ length has.old) }
-    ensures filling { Filling (blocks_in row.now) b area.old area.new }
-    ensures fair { Fair (graph_in row.now) (blocks_in row.now) b area.new }
-    ensures mirror { Mirror (blocks_in row.now) b has.new area.new }
+/// Only the exit's cost 0 is set.
+pub fn begin(graph: Graph<'_>, layout: Layout, has: &mut [u64], area: &mut [u8])
+    requires ready { Ready (graph_in graph.row.now) layout.blocks layout.budget area.old }
+    requires empty { Empty has.old × (2 * layout.budget + 2 ≤ length has.old) }
+    ensures filling { Filling layout.blocks layout.budget area.old area.new }
+    ensures fair { Fair (graph_in graph.entry.row.now) layout.blocks layout.budget area.new }
+    ensures mirror { Mirror layout.blocks layout.budget has.new area.new }
 {
-    let n = blocks_in(row);
-    clear_cells(area, n, b);
-    set_cell(area, b, 2, 0);
+    clear_cells(area, layout);
+    set_cell(area, layout, 2, 0);
     put(has, 0, 2);
 }
 
-// v's cost c, where what is onward from it is settled.
+/// One block's cost, where what is onward from it is settled.
 pub fn settle(
-    row: &[u16],
+    graph: Graph<'_>,
+    layout: Layout,
     nexts: &[u64],
     has: &mut [u64],
     area: &mut [u8],
-    b: usize,
-    v: usize,
-    c: usize,
+    block: usize,
+    cost: usize,
 )
-    requires flat { Flat row.now }
-    requires kept { Kept (graph_in row.now) (blocks_in row.now) b nexts.now has.old area.old }
-    requires le_v { (1 ≤ v) × (v ≤ blocks_in row.now) × (v ≢ 2) × (c ≤ b) }
-    requires by_index { (t d : ℕ) → Memᴰ t ((graph_in row.now).next v) → c ≡ (graph_in row.now).cost v + d
-        → completes (graph_in row.now) t d ≡ true → stands b area.old t d ≡ true }
-    ensures wider { Wider (graph_in row.now) (blocks_in row.now) b area.old area.new }
-    ensures kept_2 { Kept (graph_in row.now) (blocks_in row.now) b nexts.now has.new area.new }
-    ensures c_after { completes (graph_in row.now) v c ≡ true → stands b area.new v c ≡ true }
+    requires blocks { layout.blocks ≡ blocks_in graph.row.now }
+    requires kept { Kept (graph_in graph.row.now) layout.blocks layout.budget nexts.now has.old area.old }
+    requires inside { (1 ≤ block) × (block ≤ layout.blocks) × (block ≢ 2) × (cost ≤ layout.budget) }
+    requires onward { (t d : ℕ) → Memᴰ t ((graph_in graph.row.now).next block) → cost ≡ (graph_in graph.row.now).cost block + d
+        → completes (graph_in graph.row.now) t d ≡ true → stands layout.budget area.old t d ≡ true }
+    ensures wider { Wider (graph_in graph.entry.row.now) layout.blocks layout.budget area.old area.new }
+    ensures kept_2 { Kept (graph_in graph.entry.row.now) layout.blocks layout.budget nexts.now has.new area.new }
+    ensures set { completes (graph_in graph.entry.row.now) block cost ≡ true → stands layout.budget area.new block cost ≡ true }
 {
-    let own = cost_in(row, v);
-    if c < own {
+    let own = graph.cost(block);
+    if cost < own {
         return;
     }
-    if !meet(has, c - own, nexts, v) {
+    if !meet(has, cost - own, nexts, block) {
         return;
     }
-    put(has, c, v);
-    set_cell(area, b, v, c);
+    put(has, cost, block);
+    set_cell(area, layout, block, cost);
 }

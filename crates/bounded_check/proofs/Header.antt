@@ -12,18 +12,18 @@ use Rattle.formats.specs.BoundedSheet.{Heading, heading, entries_in}
 use Rattle.formats.proofs.Budgets.{bounded-records, budgets-there}
 use Rattle.formats.proofs.Headings.{read-proper}
 use Rattle.entry_check.specs.Entries.{bad_entry_words}
+use Rattle.bounded_check.specs.Ruled.{Listed}
 
 module _ (s : List ℕ) (there : (heading s).records ≤ length s) where
   pub budgets-inside : budgets_at s + budget_count s ≤ length s
   budgets-inside = omega (arith, bounded-records s)
 
   -- an entry for each budget
-  pub part-lengths : {bs es : List ℕ} → least_words ≤ length s → 1 ≤ budget_count s → bs ≡ budgets_in s → es ≡ entries_in s
-      → (length es ≡ length bs) × (1 ≤ length bs)
-  part-lengths long one x y =
+  pub listed : {bs es : List ℕ} → least_words ≤ length s → 1 ≤ budget_count s → bs ≡ budgets_in s → es ≡ entries_in s → Listed s bs es
+  listed long one x y =
       let P = read-proper s long there in
       let l = budgets-there s budgets-inside in
-      (ap length y ∙ P.same ∙ ap length (sym x), omega (arith, ap length x))
+      record { budgets = x; entries = y; same = (ap length y ∙ P.same ∙ ap length (sym x), omega (arith, ap length x)) }
 
 -- what was said of such parts
 pub parts-say : (h : Heading) (s : List ℕ) {bs es : List ℕ} {r : Bool} → bs ≡ budgets_in s → es ≡ entries_in s → r ≡ bad_entry_words h s bs es

@@ -4,5 +4,9 @@ pub mod Starts
 pub mod Rule
 -- the exit behind the start copies: starts-alone, other_block, exit-low, exit-chain, one-exit, second-tells
 pub mod Exit
--- the budgets and the entries as parts of the sheet: part-lengths, parts-say
+-- the budgets and the entries as parts of the sheet: listed, parts-say
 pub mod Header
+-- the exit's place: passes_none, finds, passes, last-left
+pub mod ExitPlace
+-- what a sheet that keeps rule 11 has: ruled, budget_is
+pub mod Sheet

@@ -6,3 +6,5 @@ pub mod Form
 pub mod Behind
 -- the first copies of block 1: Leading
 pub mod Starts
+-- what rule 11 leaves: Listed, IsRuled; entry_word
+pub mod Ruled

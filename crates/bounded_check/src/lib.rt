@@ -1,151 +1,219 @@
-// A public call on a bounded sheet of either version: rule 11, each word of the sheet looked at a few times at most.
-// Rests on words, headers, budgets, record_check, entry_check; the promise is an equation with formats Rule11.
+// A public call on a bounded sheet of either version: rule 11, each word of the sheet looked at a few times at most. A sheet that keeps it is
+// a view that carries it, so that nothing behind asks for it again.
+// Rests on words, headers, budgets, bounded_records, record_check, entry_check; the promise is an equation with formats Rule11.
 #![tactic(auto)]
 
-ghost use Rattle.std.specs.Prelude.{◌≡◌, false, ◌||◌, ◌+◌, ◌*◌, ◌≤◌, ◌<◌, length};
-ghost use Rattle.base.specs.Lists.{from};
+ghost use Rattle.std.specs.Prelude.{◌≡◌, false, ◌||◌, ◌+◌, ◌*◌, ◌≤◌, ◌<◌, length, IfOk, IfSome};
 ghost use Rattle.base.specs.Checks.{outside};
-ghost use Rattle.formats.specs.Limits.{least_words, word_limit, least_copies, most_copies, least_bounded_edges, most_bounded_edges};
-ghost use Rattle.formats.specs.Versions.{budget_count, budgets_in};
+ghost use Rattle.base.specs.Lists.{nth};
+ghost use Rattle.base.specs.Refusals.{answer_of};
+ghost use Rattle.formats.specs.Limits.{least_words, word_limit, most_budget, least_copies, most_copies, least_bounded_edges, most_bounded_edges};
+ghost use Rattle.formats.specs.Versions.{budgets_in};
 ghost use Rattle.formats.specs.BoundedSheet.{heading_of, heading, entries_in};
-ghost use Rattle.formats.specs.Rule11.{copies_of, start_count, bounded_refusal, Formed};
+ghost use Rattle.formats.specs.Rule11.{copies_of, start_count, bounded_refusal};
+ghost use Rattle.bounded_records.specs.Records.{heading_in};
 ghost use Rattle.record_check.specs.Records.{bad_records};
-ghost use Rattle.entry_check.specs.Entries.{bad_entry_words};
 ghost use Rattle.bounded_check.specs.Form.{bad_form};
 ghost use Rattle.bounded_check.specs.Behind.{bad_exits, bad_behind};
 ghost use Rattle.bounded_check.specs.Starts.{Leading};
+ghost use Rattle.bounded_check.specs.Ruled.{IsRuled, Listed, entry_word};
 
+use base::Refusal;
+use bounded_records::BoundedRecords;
 use budgets::bad_budgets;
 use entry_check::bad_entry_words;
-use headers::{budgets_part, entries_part, is_second, read_heading};
-use record_check::bad_copies;
+use headers::{Heading, budgets_part, entries_part, is_second, read_heading};
+use record_check::has_bad_record;
 use words::{
     LEAST_BOUNDED_EDGES, LEAST_COPIES, LEAST_WORDS, MOST_BOUNDED_EDGES, MOST_BUDGET, MOST_COPIES,
-    field, is_either_outside,
+    is_either_outside,
 };
+
+// The entries of a sheet of the first version.
+const FIRST_ENTRIES: &[u16] = &[1];
+
+// "The exit is the only copy of block 2"
+const EXIT_BLOCK: usize = 2;
+
+/// A bounded sheet that keeps rule 11: its header is read, and its records, budgets and entries are there.
+#[derive(Clone, Copy)]
+pub struct RuledSheet<'a> {
+    pub records: BoundedRecords<'a>,
+    pub budgets: &'a [u16],
+    pub entries: &'a [u16],
+    pub ghost ruled: { IsRuled (heading_of records.start records.copies records.edges records.largest) budgets.now entries.now records.words.now },
+}
 
 // THE HEADER AND THE LENGTH
 
-// C or F outside its limits.
-fn bad_limits(c: usize, f: usize) -> bool
-    ensures { result ≡ (outside least_copies most_copies c || outside least_bounded_edges most_bounded_edges f) }
+/// C or F outside its limits.
+fn bad_limits(copies: usize, edges: usize) -> bool
+    ensures { result ≡ (outside least_copies most_copies copies || outside least_bounded_edges most_bounded_edges edges) }
 {
     is_either_outside(
         LEAST_COPIES,
         MOST_COPIES,
-        c,
+        copies,
         LEAST_BOUNDED_EDGES,
         MOST_BOUNDED_EDGES,
-        f,
+        edges,
     )
 }
 
-// The clauses that go by the header and the length alone. Budgets that rise are within their limit where the last is.
-fn bad_form(s: &[u16], at: usize, c: usize, f: usize, b: usize) -> bool
-    requires least_words_in_bounds { (least_words ≤ length s.now) × (heading_of at c f b ≡ heading s.now) }
-    requires c_lt_word_limit { (c < word_limit) × (f < word_limit) × (at ≤ 4 + 2 * word_limit) }
-    ensures { result ≡ bad_form (heading_of at c f b) s.now }
+/// The clauses that go by the header and the length alone. Budgets that rise are within their limit where the last is.
+fn bad_form(words: &[u16], header: Heading) -> bool
+    requires header { (least_words ≤ length words.now) × (heading_of header.records header.copies header.edges header.largest ≡ heading words.now) }
+    requires limits { (header.copies < word_limit) × (header.edges < word_limit) × (header.records ≤ 4 + 2 * word_limit) }
+    ensures { result ≡ bad_form (heading_of header.records header.copies header.edges header.largest) words.now }
 {
-    if bad_limits(c, f) {
+    if bad_limits(header.copies, header.edges) {
         return true;
     }
-    if s.len() != at + 3 * c + 2 * f {
+    if words.len() != header.records + 3 * header.copies + 2 * header.edges {
         return true;
     }
-    if MOST_BUDGET < b {
+    if MOST_BUDGET < header.largest {
         return true;
     }
-    bad_budgets(s)
+    bad_budgets(words)
 }
 
-// THE START COPIES, THE EXIT AND THE ENTRIES, behind any header: c copies and f edges from the word `at` on, and the largest budget b
+// THE START COPIES, THE EXIT AND THE ENTRIES, behind any header
 
-// The number of start copies, those of block 1, which are the first ones: the first copy of another block ends them.
-fn count_starts(s: &[u16], at: usize, c: usize, f: usize, b: usize) -> usize
-    requires { Formed (heading_of at c f b) s.now }
-    ensures { Leading (heading_of at c f b) s.now result }
+/// The number of start copies, those of block 1, which are the first ones: the first copy of another block ends them.
+fn count_starts(records: BoundedRecords<'_>) -> usize
+    ensures { Leading (heading_in records.entry) records.entry.words.now result }
 {
-    let mut k = 0;
-    while k < c {
-        if field(s, at, 3, k + 1, 0) != 1 {
-            return k;
+    for copy in 1..records.copies + 1 {
+        if records.block(copy) != 1 {
+            return copy - 1;
         }
-        k += 1;
     }
-    k
+    records.copies
 }
 
-// The exit is not the only copy of block 2, or has a low or a chain. In copies in order it stands behind the k start copies, and no copy of its
-// block behind it.
-fn bad_exits(s: &[u16], at: usize, c: usize, f: usize, b: usize, k: usize) -> bool
-    requires formed { Formed (heading_of at c f b) s.now }
-    requires k_value { bad_records (heading_of at c f b) s.now k ≡ false }
-    requires k_value_2 { (k ≡ start_count (heading_of at c f b) s.now) × (k ≤ c) }
-    ensures { result ≡ bad_exits (heading_of at c f b) s.now }
+/// The exit is not the only copy of block 2, or has a low or a chain. In copies in order it stands behind the start copies, and no copy of its
+/// block behind it.
+fn bad_exits(records: BoundedRecords<'_>, starts: usize) -> bool
+    requires kept { bad_records (heading_in records) records.words.now starts ≡ false }
+    requires starts { (starts ≡ start_count (heading_in records) records.words.now) × (starts ≤ records.copies) }
+    ensures { result ≡ bad_exits (heading_in records.entry) records.entry.words.now }
 {
-    if k == c {
+    if starts == records.copies {
         return true;
     }
-    if field(s, at, 3, k + 1, 0) != 2 {
+    let exit = starts + 1;
+    if records.block(exit) != EXIT_BLOCK {
         return true;
     }
-    if field(s, at, 3, k + 1, 1) != 0 {
+    if records.low(exit) != 0 {
         return true;
     }
-    if field(s, at, 3, k + 1, 2) != 0 {
+    if records.first_edge(exit) != 0 {
         return true;
     }
-    if k + 1 == c {
+    if exit == records.copies {
         return false;
     }
-    field(s, at, 3, k + 2, 0) == 2
+    records.block(exit + 1) == EXIT_BLOCK
 }
 
-// The entries are checked as a part of the sheet, beside the part that is the budgets; in the first version there is one, which is 1.
-fn bad_entries(s: &[u16], at: usize, c: usize, f: usize, b: usize, k: usize) -> bool
-    requires formed { Formed (heading_of at c f b) s.now }
-    requires s_value { (copies_of (heading_of at c f b) s.now 1 ≡ from 1 k) × (k ≤ c) }
-    requires least_words_in_bounds { (least_words ≤ length s.now) × ((heading s.now).records ≤ length s.now) × (1 ≤ budget_count s.now) }
-    ensures { result ≡ bad_entry_words (heading_of at c f b) s.now (budgets_in s.now) (entries_in s.now) }
+/// The clauses behind the header: the copies and their edges, then the exit, then the entries.
+fn bad_behind(records: BoundedRecords<'_>, budgets: &[u16], entries: &[u16]) -> bool
+    requires listed { Listed records.words.now budgets.now entries.now }
+    ensures { result ≡ bad_behind (heading_in records.entry) records.entry.words.now }
 {
-    let bs = budgets_part(s);
-    if is_second(s) {
-        let es = entries_part(s);
-        return bad_entry_words(s, at, c, f, b, k, bs, es);
-    }
-    let one = [1u16];
-    bad_entry_words(s, at, c, f, b, k, bs, &one)
-}
-
-// The clauses behind the header: the copies and their edges, then the exit, then the entries.
-fn bad_behind(s: &[u16], at: usize, c: usize, f: usize, b: usize) -> bool
-    requires formed { Formed (heading_of at c f b) s.now }
-    requires least_words_in_bounds { (least_words ≤ length s.now) × ((heading s.now).records ≤ length s.now) × (1 ≤ budget_count s.now) }
-    ensures { result ≡ bad_behind (heading_of at c f b) s.now }
-{
-    let k = count_starts(s, at, c, f, b);
-    if bad_copies(s, at, c, f, b, k) {
+    let starts = count_starts(records);
+    if has_bad_record(records, starts) {
         return true;
     }
-    if bad_exits(s, at, c, f, b, k) {
+    if bad_exits(records, starts) {
         return true;
     }
-    bad_entries(s, at, c, f, b, k)
+    bad_entry_words(records, starts, budgets, entries)
 }
 
-// 11 where a clause of rule 11 is broken, else 0.
-pub fn check_bounded(s: &[u16]) -> u16
-    ensures { result ≡ bounded_refusal s.now }
+/// The entries, a part of a sheet of the second version; a sheet of the first version has one, which is 1.
+fn all_entries(words: &[u16]) -> &[u16]
+    requires { (least_words ≤ length words.now) × ((heading words.now).records ≤ length words.now) }
+    ensures { result.now ≡ entries_in words.now }
 {
-    if s.len() < LEAST_WORDS {
-        return 11;
+    if is_second(words) {
+        return entries_part(words);
     }
-    let h = read_heading(s);
-    if bad_form(s, h.records, h.copies, h.edges, h.largest) {
-        return 11;
+    FIRST_ENTRIES
+}
+
+impl<'a> RuledSheet<'a> {
+    /// 11 where a clause of rule 11 is broken, else the sheet.
+    pub fn check(words: &'a [u16]) -> Result<RuledSheet<'a>, Refusal>
+        ensures answer { answer_of result ≡ bounded_refusal words.now }
+        ensures words { IfOk result (λ sheet. sheet.records.words.now ≡ words.now) }
+    {
+        if words.len() < LEAST_WORDS {
+            return Err(Refusal::BrokenRule);
+        }
+        let header = read_heading(words);
+        if bad_form(words, header) {
+            return Err(Refusal::BrokenRule);
+        }
+        let records = BoundedRecords {
+            words,
+            start: header.records,
+            copies: header.copies,
+            edges: header.edges,
+            largest: header.largest,
+        };
+        let budgets = budgets_part(words);
+        let entries = all_entries(words);
+        if bad_behind(records, budgets, entries) {
+            return Err(Refusal::BrokenRule);
+        }
+        Ok(RuledSheet {
+            records,
+            budgets,
+            entries,
+        })
     }
-    if bad_behind(s, h.records, h.copies, h.edges, h.largest) {
-        return 11;
+
+    /// The budget with a number.
+    pub fn budget(self, number: usize) -> usize
+        requires { (1 ≤ number) × (number ≤ length self.budgets.now) }
+        ensures { (result ≡ nth (budgets_in self.entry.records.words.now) number) × (result ≤ most_budget) }
+    {
+        self.budgets[number - 1] as usize
     }
-    0
+
+    /// The entry of the budget with a number, a start copy; None where nothing fits the budget.
+    pub fn entry(self, number: usize) -> Option<usize>
+        requires { (1 ≤ number) × (number ≤ length self.budgets.now) }
+        ensures word { entry_word result ≡ nth (entries_in self.entry.records.words.now) number }
+        ensures copy { IfSome result (λ copy. (1 ≤ copy) × (copy < word_limit)) }
+    {
+        match self.entries[number - 1] {
+            0 => None,
+            copy => Some(copy as usize),
+        }
+    }
+
+    /// The exit's place, that of the only copy of block 2: it stands behind the start copies.
+    pub fn exit(self) -> usize
+        ensures value { result ≡ nth (copies_of (heading_in self.entry.records) self.entry.records.words.now 2) 1 }
+        ensures inside { (1 ≤ result) × (result ≤ self.entry.records.copies) }
+    {
+        for copy in 1..self.records.copies {
+            if self.records.block(copy) == EXIT_BLOCK {
+                return copy;
+            }
+        }
+        self.records.copies
+    }
+}
+
+/// 11 where a clause of rule 11 is broken, else the sheet.
+pub fn check_bounded(words: &[u16]) -> Result<RuledSheet<'_>, Refusal>
+    ensures answer { answer_of result ≡ bounded_refusal words.now }
+    ensures words { IfOk result (λ sheet. sheet.records.words.now ≡ words.now) }
+{
+    RuledSheet::check(words)
 }

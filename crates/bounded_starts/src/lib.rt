@@ -1,48 +1,31 @@
 // A public call: the start of a walk on a bounded sheet with a chosen budget, with the walk by value.
-// Rests on headers, bounded_check, walk; the promise is calls Starts.
+// Rests on words, bounded_check, walk; the promise is calls Starts.
 #![tactic(auto)]
 
 ghost use Rattle.std.specs.Prelude.{◌≡◌};
+ghost use Rattle.base.specs.Refusals.{answer_of};
+ghost use Rattle.calls.specs.Moves.{Budgeted};
 ghost use Rattle.calls.specs.Starts.{bounded_start};
-ghost use Rattle.walk.specs.Walks.{walk_of};
+ghost use Rattle.walk.specs.Walks.{set_on};
 
-use bounded_check::check_bounded;
-use headers::{entry, read_budgets};
-use walk::{Moved, Walk, set_out, stop};
+use base::Refusal;
+use bounded_check::RuledSheet;
+use walk::Walk;
 use words::is_outside;
 
-// "a budget number outside the sheet is 33"
-const NO_BUDGET: u16 = 33;
-
-// A bounded start: the sheet and the budget's number are checked, and the walk sets out from the budget's entry, or is stopped where that
-// is 0. The walk w is kept under a refusal.
-pub fn start_bounded(t: &[u16], w: Walk, budget: u16) -> Moved
-    ensures answer_value { result.answer ≡ (bounded_start t.now (walk_of w) budget).answer }
-    ensures walk_value { walk_of result.walk ≡ (bounded_start t.now (walk_of w) budget).after }
+/// The walk that sets out from the entry of the budget of this number, diverted at once where that is 0; else 11 of the sheet, or 33 of the number.
+/// The promise is that of whatever walk the result is set on: a refusal leaves it as it is.
+pub fn start_bounded(words: &[u16], budget: u16) -> Result<Walk, Refusal>
+    ensures answer_value { (before : Budgeted) → answer_of result ≡ (bounded_start words.now before budget).answer }
+    ensures walk_value { (before : Budgeted) → set_on before result ≡ (bounded_start words.now before budget).after }
 {
-    let a = check_bounded(t);
-    if a != 0 {
-        return Moved { answer: a, walk: w };
+    let sheet = RuledSheet::check(words)?;
+    let number = budget as usize;
+    if is_outside(1, sheet.budgets.len(), number) {
+        return Err(Refusal::Outside);
     }
-    let at = read_budgets(t);
-    let k = budget as usize;
-    if is_outside(1, at.count, k) {
-        return Moved {
-            answer: NO_BUDGET,
-            walk: w,
-        };
-    }
-    let e = entry(t, k);
-    if e == 0 {
-        let after = stop(budget);
-        return Moved {
-            answer: 0,
-            walk: after,
-        };
-    }
-    let after = set_out(e, budget);
-    Moved {
-        answer: 0,
-        walk: after,
+    match sheet.entry(number) {
+        None => Ok(Walk::stop(budget)),
+        Some(copy) => Ok(Walk::set_out(copy, budget)),
     }
 }

@@ -9,13 +9,13 @@ use Rattle.base.specs.Lists.{each}
 use Rattle.base.proofs.Lists.{chosen-some}
 use Rattle.formats.specs.Limits.{most_blocks}
 use Rattle.formats.specs.Report.{Figures, total_line, most_line, unused_line, unused_lines}
-use Rattle.unused.specs.Marks.{marked_blocks}
+use Rattle.unused.specs.Marks.{Marks, marked_blocks}
 use Rattle.tally.specs.declared.Tally.{Tally}
 use Rattle.tally.specs.Tallies.{sums_of, most_from}
 use Rattle.catalogue.specs.Standing.{marks_of, Standing}
 use Rattle.catalogue.specs.Parts.{closing_part}
 
-module _ {fs : List Figures} {t : Tally} {marks : List ℕ} (D : Standing fs t marks) where
+module _ {fs : List Figures} {t : Tally} {marks : Marks} (D : Standing fs t marks) where
   pub total-part : total_line (sums_of t) ≡ closing_part fs 0
   unfolding closing_part
   total-part = ap total_line D.summed
@@ -30,12 +30,11 @@ module _ {fs : List Figures} {t : Tally} {marks : List ℕ} (D : Standing fs t m
       let f = chosen-some fs (suc i) (omega arith) (omega (arith, D.place)) in
       ap (each (unused_line (suc i))) (D.unused i f.0 f.1) ∙ rw (f.1, closing_part)
 
-  -- by the part's number, and the part of the marks as the code has it
-  pub unused-part : (k : ℕ) → (k ≡ 0 → ⊥) → (k ≡ 1 → ⊥) → k < t.place + 2
-      → each (unused_line (k - 1)) (marked_blocks (take ((k - 2) * most_blocks + most_blocks - (k - 2) * most_blocks) (drop ((k - 2) * most_blocks) marks)))
-      ≡ closing_part fs k
-  unused-part k n m l =
-      let p : k - 1 ≡ suc (k - 2) = omega arith in
-      let q : suc (suc (k - 2)) ≡ k = omega arith in
-      let a : (k - 2) * most_blocks + most_blocks - (k - 2) * most_blocks ≡ most_blocks = omega arith in
-      rw (p, a) (of-sheet (k - 2) (omega arith) ∙ ap (closing_part fs) q)
+  -- the part of the marks as the code has it
+  pub unused-part : (i : ℕ) → i < t.place
+      → each (unused_line (i + 1)) (marked_blocks (take (i * most_blocks + most_blocks - i * most_blocks) (drop (i * most_blocks) marks)))
+      ≡ closing_part fs (suc (suc i))
+  unused-part i l =
+      let p : i + 1 ≡ suc i = omega arith in
+      let a : i * most_blocks + most_blocks - i * most_blocks ≡ most_blocks = omega arith in
+      rw (p, a) (of-sheet i l)

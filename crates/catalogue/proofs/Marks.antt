@@ -8,14 +8,15 @@ use lib.ListN.{length, take, drop, length-drop, take-append-drop}
 use lib.Seq.{length-take-le, take-append-le, drop-append-le, take_at, drop_at}
 use Rattle.formats.specs.Limits.{most_blocks}
 use Rattle.catalogue.specs.Standing.{marks_of}
+use Rattle.unused.specs.Marks.{Marks}
 
 -- they lie in the front of a row
-front-marks : (i : ℕ) (a b : List ℕ) → i * most_blocks + most_blocks ≤ length a → marks_of i (a ++ b) ≡ marks_of i a
+front-marks : (i : ℕ) (a b : Marks) → i * most_blocks + most_blocks ≤ length a → marks_of i (a ++ b) ≡ marks_of i a
 front-marks i a b l =
     ap (take most_blocks) (drop-append-le (i * most_blocks) a b (omega arith))
     ∙ take-append-le most_blocks (drop (i * most_blocks) a) b (omega (arith, length-drop (i * most_blocks) a))
 
-module _ (p : ℕ) (old part rest : List ℕ) (l : p * most_blocks ≤ length old) where
+module _ (p : ℕ) (old part rest : Marks) (l : p * most_blocks ≤ length old) where
   before : length (take (p * most_blocks) old) ≡ p * most_blocks
   before = length-take-le (p * most_blocks) old l
 

@@ -2,19 +2,18 @@
 -- Rests on formats Limits and Report, digits Due, tally Tallies, sheet_figures Says, figures Reports, specs Standing, Marks, More.
 use mathlib.Core.Path.{◌≡◌, refl, sym, ap, ◌∙◌}
 use mathlib.Core.Logic.{◌⊎◌, inl, inr}
-use mathlib.Core.Bool.{Bool, ◌&&◌, not}
+use Rattle.std.specs.Prelude.{Option as Bytes}
 use mathlib.Core.List.{List, [], ◌∷◌, ◌++◌}
 use mathlib.Core.Option.{Option, some, none-ne-some}
 use Prim.Native.Nat.{ℕ, suc, ◌+◌, ◌*◌, ◌≤◌, ◌<◌}
 use native.Mathlib.Omega.{arith}
-use lib.Dec.{ltb}
 use lib.ListN.{length, take, length-append}
 use Rattle.base.specs.Lists.{chosen}
-use Rattle.formats.specs.Limits.{most_blocks, most_sheets}
+use Rattle.formats.specs.Limits.{most_blocks}
 use Rattle.formats.specs.Report.{Figures, Sums, no_sums, plus, sums, Most, no_most, greater, most_of, most, sheet_line}
 use Rattle.calls.specs.Report.{figures}
 use Rattle.digits.proofs.Due.{wrote_as}
-use Rattle.unused.specs.Marks.{marked_blocks}
+use Rattle.unused.specs.Marks.{Marks, marked_blocks}
 use Rattle.tally.specs.declared.Tally.{Tally}
 use Rattle.tally.specs.Tallies.{sums_of, most_from, figured, Tallied}
 use Rattle.sheet_figures.specs.declared.Reported.{Reported}
@@ -25,7 +24,7 @@ use Rattle.catalogue.proofs.Marks.{own-marks, other-marks}
 use Rattle.catalogue.proofs.More.{sums-more, most-more, chosen_more}
 
 -- NO SHEET
-pub stands-first : {t : Tally} {marks : List ℕ} → t.place ≡ 0 → sums_of t ≡ no_sums → most_from t.most ≡ no_most → Standing [] t marks
+pub stands-first : {t : Tally} {marks : Marks} → t.place ≡ 0 → sums_of t ≡ no_sums → most_from t.most ≡ no_most → Standing [] t marks
 unfolding sums most chosen
 stands-first p s m = record { place = p; summed = s; greatest = m; unused = λ i f e. absurd (none-ne-some f e) }
 
@@ -39,17 +38,17 @@ unfolding greater most_of
 most-by m k f e p q = rw (p, q)
 
 -- what is said of a sheet from its first bytes is said of the sheet
-said : {bs part row text : List ℕ} {cut : Bool} {o : Option (List ℕ)} {k : ℕ} {r : Reported} → Front bs cut o
-    → Reports bs cut k r part row text → Says (figures o) k r part row text
+said : {bytes : Bytes (List ℕ)} {part : Marks} {row text : List ℕ} {o : Option (List ℕ)} {k : ℕ} {r : Reported} → Front bytes o
+    → Reports bytes k r part row text → Says (figures o) k r part row text
 said beyond R = R.beyond refl
-said (whole fs e) R = R.whole fs refl e
+said (whole fs) R = R.whole fs refl
 
 -- ONE SHEET MORE: its part of the marks stands behind those of the p sheets so far
-abbrev put_marks : ℕ → List ℕ → List ℕ → List ℕ → List ℕ
+abbrev put_marks : ℕ → Marks → Marks → Marks → Marks
 put_marks p old part rest = take (p * most_blocks) old ++ (part ++ rest)
 
 -- of which r is said
-module _ (t t' : Tally) (r : Reported) (old part rest : List ℕ) (T : Tallied (figured r.blocks r.copies r.edges) t t')
+module _ (t t' : Tally) (r : Reported) (old part rest : Marks) (T : Tallied (figured r.blocks r.copies r.edges) t t')
     (room : t.place * most_blocks ≤ length old) (size : length part ≡ most_blocks) where
   stands_after : {k : ℕ} {row text : List ℕ} (fs : List Figures) (f : Figures) → Standing fs t old → Says f k r part row text
       → Standing (fs ++ (f ∷ [])) t' (put_marks t.place old part rest)
@@ -76,13 +75,11 @@ module _ (t t' : Tally) (r : Reported) (old part rest : List ℕ) (T : Tallied (
           ap (λ (j : ℕ). marked_blocks (marks_of j (put_marks t.place old part rest))) (x.0 ∙ sym D.place)
           ∙ ap marked_blocks (own-marks t.place old part rest room size) ∙ S.unused ∙ ap (λ (h : Figures). h.unused) x.1
 
-  pub next_of : {bs row text : List ℕ} {cut more : Bool} → Reports bs cut (t.place + 1) r part row text
-      → more ≡ (not cut && ltb t'.place most_sheets)
-      → Next bs cut t old (record { tally = t'; size = r.size; more = more }) (put_marks t.place old part rest) row text
-  next_of R e = record {
+  pub next_of : {bytes : Bytes (List ℕ)} {row text : List ℕ} → Reports bytes (t.place + 1) r part row text
+      → Next bytes t old (record { now = t'; size = r.size }) (put_marks t.place old part rest) row text
+  next_of R = record {
     line = λ fs o D F.
         let p : t.place + 1 ≡ suc (length fs) = omega (arith, D.place) in
         wrote_as (said F R).line (ap (λ (k : ℕ). sheet_line k (figures o)) p);
     after = λ fs o D F. stands_after fs (figures o) D (said F R);
-    more = e;
   }

@@ -9,31 +9,30 @@ ghost use Rattle.formats.specs.Words.{field as field_at, edges_from, unsound};
 use chains::mark_chain;
 use words::field;
 
-// Following all chains meets a record above m, or a record twice, or misses one: the first record of v's is word k of the v-th of the n records
-// of two words from the word `at` on, and the m records that are chained stand from the word `base` on. The marks are lent, and clear.
+/// Whether following all chains meets a record above `records`, or a record twice, or misses one: the first record of the chain of a number is word
+/// `word` of its entry, of two words, in the table from the word `table` on, and the records that are chained stand from the word `base` on. The
+/// marks are lent, and clear.
+// Places and counts, and no view: the tables of two kinds of sheet, blocks with their edges and blocks with their operations, are followed so.
 pub fn unsound_chains(
-    s: &[u16],
-    seen: &mut [u8],
-    at: usize,
-    n: usize,
-    k: usize,
+    words: &[u16],
+    marks: &mut [u8],
+    table: usize,
+    numbers: usize,
+    word: usize,
     base: usize,
-    m: usize,
+    records: usize,
 ) -> bool
-    requires k_bound { (k < 2) × (at + 2 * n ≤ length s.now) × (base + 2 * m ≤ length s.now) }
-    requires m_in_bounds { (m < length seen.old) × (seen.old ≡ replicate (length seen.old) 0) }
-    ensures { result ≡ unsound m (each (λ v. edges_from s.now base (suc m) (field_at s.now at 2 v k)) (from 1 n)) }
+    requires word_bound { (word < 2) × (table + 2 * numbers ≤ length words.now) × (base + 2 * records ≤ length words.now) }
+    requires records_in_bounds { (records < length marks.old) × (marks.old ≡ replicate (length marks.old) 0) }
+    ensures { result ≡ unsound records (each (λ v. edges_from words.now base (suc records) (field_at words.now table 2 v word)) (from 1 numbers)) }
 {
-    let mut left = m;
-    let mut v = 1;
-    while v <= n {
-        let first = field(s, at, 2, v, k);
-        let r = mark_chain(s, seen, base, m, first, left);
-        if !r.sound {
+    let mut left = records;
+    for number in 1..numbers + 1 {
+        let first = field(words, table, 2, number, word);
+        let Some(fewer) = mark_chain(words, marks, base, records, first, left) else {
             return true;
-        }
-        left = r.left;
-        v += 1;
+        };
+        left = fewer;
     }
     0 < left
 }

@@ -4,9 +4,9 @@ pub mod Unmarked
 pub mod Marks
 -- one chain followed, turn by turn: Chained, chain-begins, chain-ends, edge-above, edge-twice, edge-new
 pub mod Following
--- one chain counted, edge by edge: Passed
-pub mod Counting
--- the k-th target of a chain: Looking
+-- the k-th target of a chain: no-choice, choice-found
 pub mod Looking
 -- the targets of a chain copied, edge by edge: Copying
 pub mod Copying
+-- what a chain has left: rest_end, rest_more; rest_few, rest_counted
+pub mod Rest

@@ -7,13 +7,16 @@ use native.Mathlib.Omega.{arith}
 use borrow.Author.Tests.{lt-ltb, le-ltb}
 use lib.ListN.{length, take, drop}
 use Rattle.base.specs.Checks.{refused, lent_after}
+use Rattle.base.specs.Refusals.{number_of}
+use Rattle.base.specs.declared.refusal.Refusal.{Refusal}
+use Rattle.base.proofs.Refusals.{numbered}
 use Rattle.base.proofs.Orders.{tested, none_left, over-stops, over-passes, refused-lent, accepted-lent}
 use Rattle.formats.specs.GraphSheet.{Header, header, sheet_length, edges_at}
 use Rattle.put_words.specs.Put.{put_words}
 use Rattle.put_words.proofs.Put.{put-more}
 use Rattle.operation_sheet.specs.Operations.{block_words, graph_words, converted_sheet, Converting, operation_order, small_row, convert_order, convert, Listed}
 use Rattle.operation_sheet.proofs.GraphWords.{head-length, front_length}
-use Rattle.operation_sheet.proofs.Conversion.{operation-numbered}
+use Rattle.operation_sheet.proofs.Conversion.{accepted, operation-numbered}
 
 -- the header as it stands, the blocks behind it, the edges as they stand behind them
 pub graph-put : {h : Header} {w : List ℕ} (row : List ℕ) {a b c : List ℕ} → Listed h w → a ≡ put_words row 0 (take (h.records - 0) (drop 0 w))
@@ -34,6 +37,10 @@ graph-put {h} {w} row {a} {b} L p q r =
     ∙ put-more row 0 front (take (2 * h.edges) (drop (edges_at h) w)) (edges_at h) (omega arith)
     (omega (arith, front_length h w L.recorded.room))
 
+-- what the conditions leave, behind the header that was read, of words that are the sheet's
+pub read-listed : {w given : List ℕ} {h : Header} → given ≡ w → h ≡ header given → 0 ≡ refused operation_order w → Listed h given
+read-listed {w} same read e = rw (read, same) (accepted w (sym e)).listed
+
 -- THE ANSWERS, and what they leave of the row
 module _ (w output : List ℕ) where
   abbrev input : Converting
@@ -52,10 +59,13 @@ module _ (w output : List ℕ) where
   kept a e n = left a e output (refused-lent output _ a n)
 
   -- the sheet is refused
-  pub operations-refuse : {a : ℕ} → a ≡ refused operation_order w → (a ≡ 0 → ⊥) → Meets a output
+  operations-refuse : {a : ℕ} → a ≡ refused operation_order w → (a ≡ 0 → ⊥) → Meets a output
   unfolding convert_order
   operations-refuse {a} e n =
       kept a (over-stops (λ i. i.sheet) operation_order _ input (λ z. n (e ∙ z)) ∙ sym e) n
+
+  pub sheet-refuses : (r : Refusal) → number_of r ≡ refused operation_order w → Meets (number_of r) output
+  sheet-refuses r e = operations-refuse e (λ z. let n = numbered r in omega (arith, n, z))
 
   module _ (ok : refused operation_order w ≡ 0) where
     -- the row is too short

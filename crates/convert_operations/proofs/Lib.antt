@@ -1,4 +1,4 @@
--- the cycles of a chain, record by record: Summing
+-- the operations of a block, and their cycles, one after the other: Summing
 pub mod Sums
 -- the words of the blocks, two by two: Placing
 pub mod Blocks

@@ -1,87 +1,101 @@
 // A public call on an operation sheet: the graph sheet that it says, put into a lent row. Each record is visited once for the sums.
-// Rests on words, headers, put_words, operation_sheet, operation_check; the promise is an equation with operation_sheet Operations `convert`.
+// Rests on words, put_words, chains, graph_records, operation_sheet, operation_check; the promise is an equation with operation_sheet Operations
+// `convert`.
 #![tactic(auto)]
 
-ghost use Rattle.std.specs.Prelude.{◌≡◌, ◌≤◌, length};
-ghost use Rattle.formats.specs.GraphSheet.{header_of, sheet_length};
-ghost use Rattle.operation_sheet.specs.Operations.{cycle_sum, block_words, graph_words, convert, Listed, most_cycles};
+ghost use Rattle.std.specs.Prelude.{◌≡◌, ◌≤◌, length, map, suc};
+ghost use Rattle.base.specs.Lists.{sum};
+ghost use Rattle.base.specs.Refusals.{answer_of};
+ghost use Rattle.chains.specs.Rest.{rest};
+ghost use Rattle.formats.specs.Limits.{most_operations};
+ghost use Rattle.formats.specs.GraphSheet.{sheet_length};
+ghost use Rattle.graph_records.specs.Records.{header_in};
+ghost use Rattle.operation_sheet.specs.Operations.{cycles_of, cycle_sum, operation_word, operations_of, block_words, graph_words, convert, Listed, most_cycles};
 ghost use Rattle.put_words.specs.Put.{put_words};
+ghost use Rattle.convert_operations.specs.Small.{Small};
 
-use headers::read_header;
-use operation_check::operation_answer;
+use base::Refusal;
+use chains::Chain;
+use operation_check::{OperationRecords, check_operations};
 use operation_sheet::cycles;
-use put_words::{put_part, put_two};
-use words::{field, word_at};
+use put_words::{put_array, put_part};
 
-// The cycles of block v's chain, record by record.
-fn block_cycles(s: &[u16], at: usize, n: usize, m: usize, v: usize) -> usize
-    requires listed { Listed (header_of at n m) s.now }
-    requires le_v { (1 ≤ v) × (v ≤ n) }
-    ensures { (result ≡ cycle_sum (header_of at n m) s.now v) × (result ≤ most_cycles) }
+// The operations of a block, in order.
+fn operations<'a>(sheet: OperationRecords<'a>, block: usize) -> Chain<'a>
+    requires listed { Listed (header_in sheet.records) sheet.records.words.now }
+    requires block_inside { (1 ≤ block) × (block ≤ sheet.records.blocks) }
+    ensures value { rest result ≡ map (operation_word (header_in sheet.entry.records) sheet.entry.records.words.now) (operations_of (header_in sheet.entry.records) sheet.entry.records.words.now block) }
+    ensures small { Small (rest result) }
+    ensures few { length (rest result) ≤ suc most_operations }
 {
-    let end = at + 2 * n + 2 * m;
-    let base = end + 1;
-    let r = word_at(s, end);
-    let mut e = field(s, at, 2, v, 0);
+    let records = sheet.records;
+    let first = records.cost(block);
+    Chain::new(records.words, sheet.base, sheet.count, first)
+}
+
+// The cycles of some operations, one after the other.
+fn sum_cycles(operations: Chain<'_>) -> usize
+    requires { Small (rest operations) × (length (rest operations) ≤ suc most_operations) }
+    ensures { result ≡ sum (map cycles_of (rest operations.entry)) }
+{
     let mut total = 0;
-    let mut left = r + 1;
-    while 0 < left {
-        if e == 0 {
-            return total;
-        }
-        let k = field(s, base, 2, e, 0);
-        let c = cycles(k);
-        total += c;
-        e = field(s, base, 2, e, 1);
-        left -= 1;
+    for operation in operations {
+        total += cycles(operation as usize);
     }
     total
 }
 
-// Puts the two words of each block: its chain's cycles, and its first edge.
-fn put_blocks(s: &[u16], out: &mut [u16], at: usize, n: usize, m: usize)
-    requires listed { Listed (header_of at n m) s.now }
-    requires m_in_bounds { sheet_length (header_of at n m) ≤ length out.old }
-    ensures { out.new ≡ put_words out.old at (block_words (header_of at n m) s.now n) }
+// The cycles of a block's operations.
+fn block_cycles(sheet: OperationRecords<'_>, block: usize) -> usize
+    requires listed { Listed (header_in sheet.records) sheet.records.words.now }
+    requires block_inside { (1 ≤ block) × (block ≤ sheet.records.blocks) }
+    ensures { (result ≡ cycle_sum (header_in sheet.entry.records) sheet.entry.records.words.now block) × (result ≤ most_cycles) }
 {
-    let mut v = 1;
-    while v <= n {
-        let c = block_cycles(s, at, n, m, v);
-        let f = field(s, at, 2, v, 1);
-        put_two(out, at + 2 * (v - 1), c, f);
-        v += 1;
+    sum_cycles(operations(sheet, block))
+}
+
+// Puts the two words of each block: its operations' cycles, and its first edge.
+fn put_blocks(sheet: OperationRecords<'_>, out: &mut [u16])
+    requires listed { Listed (header_in sheet.records) sheet.records.words.now }
+    requires room { sheet_length (header_in sheet.records) ≤ length out.old }
+    ensures { out.new ≡ put_words out.old sheet.entry.records.start (block_words (header_in sheet.entry.records) sheet.entry.records.words.now sheet.entry.records.blocks) }
+{
+    let records = sheet.records;
+    for block in 1..records.blocks + 1 {
+        let cost = block_cycles(sheet, block);
+        let first = records.first_edge(block);
+        put_array(
+            out,
+            records.start + 2 * (block - 1),
+            [cost as u16, first as u16],
+        );
     }
 }
 
 // Puts the graph sheet: the header as it stands, the blocks, the edges as they stand.
-fn put_graph(s: &[u16], out: &mut [u16], at: usize, n: usize, m: usize)
-    requires listed { Listed (header_of at n m) s.now }
-    requires m_in_bounds { sheet_length (header_of at n m) ≤ length out.old }
-    ensures { out.new ≡ put_words out.old 0 (graph_words (header_of at n m) s.now) }
+fn put_graph(sheet: OperationRecords<'_>, out: &mut [u16])
+    requires listed { Listed (header_in sheet.records) sheet.records.words.now }
+    requires room { sheet_length (header_in sheet.records) ≤ length out.old }
+    ensures { out.new ≡ put_words out.old 0 (graph_words (header_in sheet.entry.records) sheet.entry.records.words.now) }
 {
-    let edges = at + 2 * n;
-    let end = edges + 2 * m;
-    put_part(out, 0, &s[0..at]);
-    put_blocks(s, out, at, n, m);
-    put_part(out, edges, &s[edges..end]);
+    let records = sheet.records;
+    let edges = records.start + 2 * records.blocks;
+    let end = edges + 2 * records.edges;
+    put_part(out, 0, &records.words[0..records.start]);
+    put_blocks(sheet, out);
+    put_part(out, edges, &records.words[edges..end]);
 }
 
-// The first of the conditions 1 to 4, 41, 6 to 8, 42 and 22 that holds; where none does, 0, and the graph sheet in the first words of the row.
-pub fn convert_operations(s: &[u16], out: &mut [u16]) -> u16
-    ensures value { result ≡ (convert s.now out.old).answer }
-    ensures out_after { out.new ≡ (convert s.now out.old).output }
+/// The first of the conditions 1 to 4, 41, 6 to 8, 42 and 22 that holds; where none does, the graph sheet is in the first words of the row.
+pub fn convert_operations(words: &[u16], out: &mut [u16]) -> Result<(), Refusal>
+    ensures value { answer_of result ≡ (convert words.now out.old).answer }
+    ensures out_after { out.new ≡ (convert words.now out.old).output }
 {
-    let a = operation_answer(s);
-    if a != 0 {
-        return a;
+    let sheet = check_operations(words)?;
+    let records = sheet.records;
+    if out.len() < records.start + 2 * records.blocks + 2 * records.edges {
+        return Err(Refusal::SmallOutput);
     }
-    let h = read_header(s);
-    let at = h.records;
-    let n = h.blocks;
-    let m = h.edges;
-    if out.len() < at + 2 * n + 2 * m {
-        return 22;
-    }
-    put_graph(s, out, at, n, m);
-    0
+    put_graph(sheet, out);
+    Ok(())
 }

@@ -1,15 +1,22 @@
--- A copy by what its tests say; behind one that holds they may say anything.
--- Rests on specs BadCopy.
-use mathlib.Core.Path.{◌≡◌}
-use mathlib.Core.Bool.{Bool, ◌||◌, not}
-use Prim.Native.Nat.{ℕ}
-use lib.Dec.{ltb}
-use Rattle.base.specs.Copy.{Copy, before}
-use Rattle.base.specs.Checks.{outside}
-use Rattle.formats.specs.Limits.{most_blocks}
-use Rattle.copy_check.specs.BadCopy.{bad_copy}
+-- The order that copies derive is the order of the rule.
+-- Rests on base Copy.
+use Rattle.std.proofs.Common.{◌≡◌, refl, Bool, true, false, ◌&&◌, ◌||◌, not, eqb, ltb, Less, Equal, Greater}
+use Rattle.std.specs.Prelude.{cond, Some}
+use Rattle.std.specs.Ordering.{is_ge, is_some_and, partial_ordering_then, partial_ge}
+use Rattle.base.specs.Copy.{before}
+use Rattle.copy_check.specs.BadCopy.{copy_in}
+use Rattle.copy_check.specs.declared.CopyKey.{CopyKey}
+use Rattle.copy_check.specs.contracts.CopyKeyPartialOrd.TheImpl as order
 
-pub copy_is : (b : ℕ) (c d : Copy) (p q r : Bool) → outside 1 most_blocks d.block ≡ p → ltb b d.low ≡ q → not (before c d) ≡ r
-    → bad_copy b c d ≡ (p || (q || r))
-unfolding bad_copy
-copy_is b c d p q r e f g = λ i. e i || (f i || g i)
+lexical : (a b c d : Bool)
+    → is_some_and is_ge (partial_ordering_then (Some (cond a Less (cond b Equal Greater))) (Some (cond c Less (cond d Equal Greater))))
+    ≡ not (a || (b && c))
+lexical true b c d = refl
+lexical false true true d = refl
+lexical false true false true = refl
+lexical false true false false = refl
+lexical false false c d = refl
+
+pub not_before : (c d : CopyKey) → partial_ge order.partial_cmp-value.it c d ≡ not (before (copy_in c) (copy_in d))
+unfolding before
+not_before c d = lexical (ltb c.block d.block) (eqb c.block d.block) (ltb c.low d.low) (eqb c.low d.low)

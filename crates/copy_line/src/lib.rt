@@ -1,57 +1,79 @@
-// The line of one copy of a listing, written into a lent row of bytes: the copy's number, block, low and targets.
-// Rests on words and digits; the promises say the whole row, by digits Wrote and specs Line.
+//! The line of one copy of a listing.
 #![tactic(auto)]
 
-ghost use Rattle.std.specs.Prelude.{suc, ◌+◌, ◌*◌, ◌≤◌, length};
-ghost use Rattle.formats.specs.Words.{Inside, next_from};
-ghost use Rattle.digits.specs.Wrote.{Wrote};
-ghost use Rattle.copy_line.specs.Line.{targets_text, line_at, Readable};
+ghost use Rattle.std.specs.Prelude.{◌≡◌, Some, ◌+◌, ◌*◌, ◌≤◌, length};
+ghost use Rattle.chains.specs.Rest.{rest};
+ghost use Rattle.printed.specs.Spaced.{spaced_words};
+ghost use Rattle.copy_line.specs.Line.{copy_text, line_at, Readable};
 
-use digits::{NEWLINE, put_byte, put_decimal, put_number};
+use chains::Chain;
+use printed::write_word;
+use std::fmt;
 use words::field;
 
-// Writes the targets of a chain of the edges 1 to m, whose records stand from the word `base` on, at the place p of the text.
-fn write_targets(s: &[u16], text: &mut [u8], p: usize, base: usize, m: usize, first: usize) -> usize
-    requires m_in_bounds { (base + 2 * m ≤ length s.now) × Inside (next_from s.now base) m (suc m) first }
-    requires first_in_bounds { p + length (targets_text s.now base m first) ≤ length text.old }
-    ensures { Wrote text.old p (targets_text s.now base m first) text.new result }
-{
-    let mut q = p;
-    let mut e = first;
-    let mut k = m + 1;
-    while 0 < k {
-        if e == 0 {
-            return q;
-        }
-        let t = field(s, base, 2, e, 0);
-        q = put_number(text, q, t);
-        e = field(s, base, 2, e, 1);
-        k -= 1;
-    }
-    q
+/// The line of a copy: its number, block, low in cycles and targets.
+#[derive(Clone, Copy)]
+pub struct CopyLine<'a> {
+    pub copy: usize,
+    pub block: usize,
+    pub low: usize,
+    pub targets: Chain<'a>,
 }
 
-// Writes the line of copy i: its number, block, low and targets; the records of c copies and f edges stand from the word `at` on.
-pub fn write_copy(
-    s: &[u16],
-    text: &mut [u8],
-    p: usize,
-    at: usize,
-    c: usize,
-    f: usize,
-    i: usize,
-) -> usize
-    requires readable { Readable s.now at c f }
-    requires le_i { (1 ≤ i) × (i ≤ c) }
-    requires i_in_bounds { p + length (line_at s.now at c f i) ≤ length text.old }
-    ensures { Wrote text.old p (line_at s.now at c f i) text.new result }
-{
-    let v = field(s, at, 3, i, 0);
-    let l = field(s, at, 3, i, 1);
-    let first = field(s, at, 3, i, 2);
-    let x = put_decimal(text, p, i);
-    let y = put_number(text, x, v);
-    let z = put_number(text, y, l);
-    let q = write_targets(s, text, z, at + 3 * c, f, first);
-    put_byte(text, q, NEWLINE)
+impl<'a> CopyLine<'a> {
+    ghost use Rattle.copy_line.specs.Text.{text_of};
+
+    /// That of a copy by the records of a sheet: those of so many copies stand from the word `start` on, and behind them those of its edges.
+    pub fn read(
+        words: &'a [u16],
+        start: usize,
+        copies: usize,
+        edges: usize,
+        copy: usize,
+    ) -> CopyLine<'a>
+        requires readable { Readable words.now start copies edges }
+        requires copy { (1 ≤ copy) × (copy ≤ copies) }
+        ensures { text_of result ≡ line_at words.now start copies edges copy }
+    {
+        let first = field(words, start, 3, copy, 2);
+        CopyLine {
+            copy,
+            block: field(words, start, 3, copy, 0),
+            low: field(words, start, 3, copy, 1),
+            targets: Chain::new(words, start + 3 * copies, edges, first),
+        }
+    }
+}
+
+/// The targets of a chain, each behind a space.
+#[derive(Clone, Copy)]
+struct Targets<'a>(Chain<'a>);
+
+impl fmt::Display for Targets<'_> {
+    ghost output = { λ targets. Some (spaced_words (rest targets.0)) };
+
+    fn fmt<W: fmt::Write>(&self, f: &mut fmt::Formatter<W>) -> fmt::Result {
+        for target in self.0 {
+            write_word(f, target)?;
+        }
+        Ok(())
+    }
+}
+
+impl fmt::Display for CopyLine<'_> {
+    ghost use Rattle.copy_line.specs.Text.{text_of};
+
+    ghost output = { λ line. Some (text_of line) };
+
+    #[tactic(auto, using(printed::proofs::Decimals::decimal_is))]
+    fn fmt<W: fmt::Write>(&self, f: &mut fmt::Formatter<W>) -> fmt::Result {
+        let CopyLine {
+            copy,
+            block,
+            low,
+            targets,
+        } = *self;
+        let targets = Targets(targets);
+        writeln!(f, "{copy} {block} {low}{targets}")
+    }
 }

@@ -1,20 +1,20 @@
-// Lists every sheet of a corpus on standard input, each preceded by a word with its length in words.
-// Rests on list and input; what it writes is compared with the reference's listings by the gate.
+//! Lists every sheet of a corpus on standard input, each preceded by a word with its length in words.
+//! Rests on list and input; what it writes is compared with the reference's listings by the gate.
 #![tactic(auto)]
 
 ghost use Rattle.std.specs.Prelude.{◌<◌, ◌≤◌, length, IfOk, IfErr};
 ghost use Rattle.file_words.specs.Longer.{longer_file};
-ghost use Rattle.text.specs.Texts.{listing_room};
 ghost use Rattle.input.specs.Failed.{OfInput, OfInputOrOutput, WritesNothing};
 
-use file_words::LONGER_FILE;
-use input::{Failure, ending, no_end, print, read_piece};
+use file_words::{LONGER_FILE, LONGER_SHEET};
+use front::MOST_WORDS;
+use input::{Failure, ending, no_end, read_piece};
 use list::list_file;
-use std::io::{Read, Write};
+use std::io::{BufWriter, Read, Write};
 use std::process::ExitCode;
-use text::TEXT_SIZE;
+use words::MOST_CELLS;
 
-// Reads until a row is full or the input ends: how many bytes.
+/// Reads until a row is full or the input ends: how many bytes.
 fn read_full<R: Read>(reader: &mut R, row: &mut [u8]) -> Result<usize, Failure>
     ensures ok { IfOk result (λ n. n ≤ length row.new) }
     ensures failure { IfErr result OfInput }
@@ -24,54 +24,67 @@ fn read_full<R: Read>(reader: &mut R, row: &mut [u8]) -> Result<usize, Failure>
         if row.len() <= count {
             return Ok(count);
         }
-        let n = read_piece(reader, &mut row[count..])?;
-        if n == 0 {
+        let more = read_piece(reader, &mut row[count..])?;
+        if more == 0 {
             return Ok(count);
         }
-        count += n;
+        count += more;
     }
     Err(no_end())
 }
 
-// Reads one sheet of so many bytes to the front of a row and writes its listing.
+/// Reads one sheet of so many bytes to the front of a row and writes its listing.
 fn list_sheet<R: Read, W: Write>(
     reader: &mut R,
     writer: &mut W,
-    bytes: &mut [u8],
-    text: &mut [u8],
+    row: &mut [u8],
     size: usize,
 ) -> Result<(), Failure>
-    requires { (size ≤ length bytes.old) × (length bytes.old ≤ longer_file) × (listing_room ≤ length text.old) }
+    requires { (size ≤ length row.old) × (length row.old ≤ longer_file) }
     ensures failure { IfErr result OfInputOrOutput }
     ensures silent { WritesNothing result (W.contents writer.old) (W.contents writer.new) }
 {
-    let n = read_full(reader, &mut bytes[..size])?;
-    let r = list_file(&bytes[..n], false, text);
-    print(writer, &text[..r])
+    let count = read_full(reader, &mut row[..size])?;
+    let mut words = [0u16; LONGER_SHEET];
+    let mut area = [0u8; MOST_CELLS];
+    let mut output = [0u16; MOST_WORDS];
+    let listed = list_file(&row[..count], false, &mut words, &mut area, &mut output);
+    write!(writer, "{listed}").map_err(Failure::Output)?;
+    writer.flush().map_err(Failure::Output)
 }
 
-fn wide(x: u8) -> usize
-    ensures { result < 256 }
+/// A sheet's length in bytes, from the word before it.
+fn size_of(head: [u8; 2]) -> usize
+    ensures { result < 131072 }
 {
-    x as usize
+    2 * u16::from_le_bytes(head) as usize
 }
 
 fn list_corpus<R: Read, W: Write>(reader: &mut R, writer: &mut W) -> Result<(), Failure>
     ensures { IfErr result OfInputOrOutput }
 {
-    let mut bytes = [0u8; LONGER_FILE];
-    let mut text = [0u8; TEXT_SIZE];
+    let mut row = [0u8; LONGER_FILE];
     for _ in 0..65535 {
         let mut head = [0u8; 2];
         if read_full(reader, &mut head)? < 2 {
             return Ok(());
         }
-        let length = wide(head[0]) + 256 * wide(head[1]);
-        list_sheet(reader, writer, &mut bytes, &mut text, 2 * length)?;
+        list_sheet(reader, writer, &mut row, size_of(head))?;
     }
     Ok(())
 }
 
+/// The same between the standard streams.
+fn run(rt: &HostRuntime) -> Result<(), Failure> {
+    let mut writer = BufWriter::new(rt.alloc(), rt.stdout()).map_err(Failure::Output)?;
+    let done = list_corpus(&mut rt.stdin(), &mut writer);
+    if done.is_err() {
+        // what could not be written is not tried again
+        let _ = writer.into_parts();
+    }
+    done
+}
+
 fn main(rt: HostRuntime) -> ExitCode {
-    ending(&rt, list_corpus(&mut rt.stdin(), &mut rt.stdout()))
+    ending(&rt, run(&rt))
 }

@@ -1,8 +1,9 @@
 -- A property of every number of a list, and of the parts of such a list.
 -- Rests on nothing.
 use mathlib.Core.List.{List, [], ◌∷◌, ◌++◌}
-use Prim.Native.Nat.{ℕ, zero, suc}
+use Prim.Native.Nat.{ℕ, zero, suc, ◌<◌}
 use lib.ListN.{get_or, take, drop, replicate}
+use Rattle.formats.specs.Limits.{word_limit}
 
 unfoldable pub AllOf : (ℕ → Type 0) → List ℕ → Type 0
 AllOf P [] = Unit {0}
@@ -35,3 +36,7 @@ module _ (P : ℕ → Type 0) where
   all_drop zero xs p = p
   all_drop (suc n) [] p = tt
   all_drop (suc n) (x ∷ xs) p = all_drop n xs p.1
+
+-- every number is a word
+abbrev pub Words : List ℕ → Type 0
+Words ws = AllOf (λ w. w < word_limit) ws

@@ -1,83 +1,136 @@
-// A row of words written as lines of decimal words.
-// Rests on words, headers, digits; the promises say the whole row, by digits Wrote and specs Writing.
+//! A row of words as lines of decimal words: a sheet's header and each of its records in a line, any other row a word a line.
 #![tactic(auto)]
 
-ghost use Rattle.std.specs.Prelude.{◌≡◌, map, ◌+◌, ◌*◌, ◌≤◌, length, replicate};
+ghost use Rattle.std.specs.Prelude.{◌≡◌, map, Some, ◌+◌, ◌*◌, ◌≤◌, length, replicate};
 ghost use Rattle.formats.specs.Listing.{decimal, line};
-ghost use Rattle.digits.specs.Wrote.{Wrote};
-ghost use Rattle.decimal.specs.Writing.{records, lines_text, sheet_text, total, sheet_room};
+ghost use Rattle.decimal.specs.Writing.{records, lines_text, sheet_text, total};
 
-use digits::{NEWLINE, put_byte, put_decimal, put_numbers};
 use headers::{read_header, read_heading};
-use words::{LEAST_WORDS, word_at};
+use printed::{Spaced, write_decimal};
+use std::fmt;
+use words::LEAST_WORDS;
 
-// Writes words in a line.
-fn put_line(ws: &[u16], text: &mut [u8], at: usize) -> usize
-    requires in_bounds { 1 ≤ length ws.now }
-    requires ws_in_bounds { at + length (line (map decimal ws.now)) ≤ length text.old }
-    ensures { Wrote text.old at (line (map decimal ws.now)) text.new result }
-{
-    let x = put_decimal(text, at, word_at(ws, 0));
-    let y = put_numbers(&ws[1..], text, x);
-    put_byte(text, y, NEWLINE)
+/// Words in a line.
+#[derive(Clone, Copy, Debug)]
+struct Line<'a>(&'a [u16]);
+
+impl fmt::Display for Line<'_> {
+    ghost output = { λ words. Some (line (map decimal words.0.now)) };
+
+    #[tactic(auto, using(crate::proofs::Parts::line_none, crate::proofs::Parts::line_is))]
+    fn fmt<W: fmt::Write>(&self, f: &mut fmt::Formatter<W>) -> fmt::Result {
+        match self.0 {
+            [first, rest @ ..] => {
+                write_decimal(f, *first)?;
+                let rest = Spaced(rest);
+                writeln!(f, "{rest}")
+            }
+            [] => writeln!(f),
+        }
+    }
 }
 
-// Writes n lines of k words each.
-fn put_lines(ws: &[u16], n: usize, k: usize, text: &mut [u8], at: usize) -> usize
-    requires le_k { 1 ≤ k }
-    requires k_in_bounds { total (replicate n k) ≤ length ws.now }
-    requires ws_in_bounds { at + length (lines_text (replicate n k) ws.now) ≤ length text.old }
-    ensures { Wrote text.old at (lines_text (replicate n k) ws.now) text.new result }
-{
-    let mut p = at;
-    let mut w = 0;
-    let mut i = n;
-    while 0 < i {
-        p = put_line(&ws[w..w + k], text, p);
-        w += k;
-        i -= 1;
-    }
-    p
+/// So many lines of so many words each.
+#[derive(Clone, Copy, Debug)]
+struct Lines<'a> {
+    words: &'a [u16],
+    count: usize,
+    width: usize,
+    ghost inside: { total (replicate count width) ≤ length words.now },
 }
 
-// Writes the header's h words, n records of k words and, from the word at e on, edge records of two words.
-fn put_records(
-    ws: &[u16],
-    h: usize,
-    n: usize,
-    k: usize,
-    at: usize,
-    e: usize,
-    text: &mut [u8],
-) -> usize
-    requires le_h { (1 ≤ h) × (1 ≤ k) }
-    requires at_value { (at ≡ h + total (replicate n k)) × (at + 2 * e ≤ length ws.now) }
-    requires ws_in_bounds { length (lines_text (records h n k e) ws.now) ≤ length text.old }
-    ensures { Wrote text.old 0 (lines_text (records h n k e) ws.now) text.new result }
-{
-    let x = put_line(&ws[..h], text, 0);
-    let y = put_lines(&ws[h..], n, k, text, x);
-    put_lines(&ws[at..], e, 2, text, y)
+impl fmt::Display for Lines<'_> {
+    ghost output = { λ lines. Some (lines_text (replicate lines.count lines.width) lines.words.now) };
+
+    fn fmt<W: fmt::Write>(&self, f: &mut fmt::Formatter<W>) -> fmt::Result {
+        let mut rest = self.words;
+        for _line in 0..self.count {
+            let (words, behind) = rest.split_at(self.width);
+            let line = Line(words);
+            write!(f, "{line}")?;
+            rest = behind;
+        }
+        Ok(())
+    }
 }
 
-// Writes a row of words as lines of decimal words, and answers the length of the text.
-pub fn decode(ws: &[u16], text: &mut [u8]) -> usize
-    requires { sheet_room ws.now ≤ length text.old }
-    ensures { Wrote text.old 0 (sheet_text ws.now) text.new result × (result ≤ length text.new) }
-{
-    let size = ws.len();
-    if size < LEAST_WORDS {
-        return put_lines(ws, size, 1, text, 0);
+/// A sheet's words: its header, so many records of a width, and from the word `edges_at` on edge records of two words.
+#[derive(Clone, Copy, Debug)]
+struct Records<'a> {
+    words: &'a [u16],
+    header: usize,
+    count: usize,
+    width: usize,
+    edges_at: usize,
+    edges: usize,
+    ghost place: { edges_at ≡ header + total (replicate count width) },
+    ghost inside: { edges_at + 2 * edges ≤ length words.now },
+}
+
+impl fmt::Display for Records<'_> {
+    ghost output = { λ sheet. Some (lines_text (records sheet.header sheet.count sheet.width sheet.edges) sheet.words.now) };
+
+    fn fmt<W: fmt::Write>(&self, f: &mut fmt::Formatter<W>) -> fmt::Result {
+        let words = self.words;
+        let header = Line(&words[..self.header]);
+        let records = Lines {
+            words: &words[self.header..],
+            count: self.count,
+            width: self.width,
+        };
+        let edges = Lines {
+            words: &words[self.edges_at..],
+            count: self.edges,
+            width: 2,
+        };
+        write!(f, "{header}{records}{edges}")
     }
-    let h = read_header(ws);
-    let blocks = h.records + 2 * h.blocks;
-    if size == blocks + 2 * h.edges {
-        return put_records(ws, h.records, h.blocks, 2, blocks, h.edges, text);
+}
+
+/// A row of words, in lines by its length: a graph sheet, a bounded sheet, or neither.
+#[derive(Clone, Copy, Debug)]
+pub struct SheetText<'a>(pub &'a [u16]);
+
+impl fmt::Display for SheetText<'_> {
+    ghost output = { λ sheet. Some (sheet_text sheet.0.now) };
+
+    fn fmt<W: fmt::Write>(&self, f: &mut fmt::Formatter<W>) -> fmt::Result {
+        let words = self.0;
+        let size = words.len();
+        let column = Lines {
+            words,
+            count: size,
+            width: 1,
+        };
+        if size < LEAST_WORDS {
+            return write!(f, "{column}");
+        }
+        let graph = read_header(words);
+        let edges_at = graph.records + 2 * graph.blocks;
+        if size == edges_at + 2 * graph.edges {
+            let sheet = Records {
+                words,
+                header: graph.records,
+                count: graph.blocks,
+                width: 2,
+                edges_at,
+                edges: graph.edges,
+            };
+            return write!(f, "{sheet}");
+        }
+        let bounded = read_heading(words);
+        let edges_at = bounded.records + 3 * bounded.copies;
+        if size == edges_at + 2 * bounded.edges {
+            let sheet = Records {
+                words,
+                header: bounded.records,
+                count: bounded.copies,
+                width: 3,
+                edges_at,
+                edges: bounded.edges,
+            };
+            return write!(f, "{sheet}");
+        }
+        write!(f, "{column}")
     }
-    let g = read_heading(ws);
-    let copies = g.records + 3 * g.copies;
-    if size == copies + 2 * g.edges {
-        return put_records(ws, g.records, g.copies, 3, copies, g.edges, text);
-    }
-    put_lines(ws, size, 1, text, 0)
 }

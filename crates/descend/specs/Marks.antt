@@ -1,33 +1,21 @@
 -- The marks of a descent over the copies of a graph g of the blocks 1 to n, with lows up to b.
 -- Rests on base Copy and Cells, theory Completions, formats Limits, tables Tables and Rows.
-use Rattle.std.specs.Prelude.{◌≡◌, ◌⊎◌, Bool, true, ℕ, suc, ◌-◌, ◌≤◌, length, get_or}
+use Rattle.std.specs.Prelude.{◌≡◌, ◌⊎◌, Bool, true, ℕ, ◌-◌, ◌≤◌, get_or}
 use mathlib.Core.List.{List, Memᴰ}
 use Rattle.std.proofs.Math.Option.{Option, some}
-use Rattle.base.specs.Cells.{cell_count}
 use Rattle.base.specs.Copy.{Copy, copy_of}
-use Rattle.theory.specs.Completions.{Graph, completes, low_of}
-use Rattle.formats.specs.Limits.{most_budget, most_bounded_edges}
-use Rattle.tables.specs.Tables.{Lows, marked, marked_copies}
-use Rattle.tables.specs.Rows.{edges_of}
+use Rattle.theory.specs.Completions.{Graph, low_of}
+use Rattle.tables.specs.Tables.{marked}
 
 -- no mark is set
 unfoldable pub Clear : List ℕ → Type 0
 Clear marks = (i : ℕ) → get_or marks i 0 ≡ 0
-
--- one more than the edges that may still come beside those of the marked copies, 0 once there are too many
-unfoldable pub edges_left : Graph → ℕ → ℕ → List ℕ → ℕ
-edges_left g n b marks = suc most_bounded_edges - edges_of g (marked_copies n b marks)
 
 -- the copy of v whose low is that of an option, if there is one, is marked
 pub record Met (b : ℕ) (marks : List ℕ) (v : ℕ) (o : Option ℕ) : Type 0 where
   pub is-met : (a : ℕ) → o ≡ some a → marked b marks v a ≡ true
 
 module _ (g : Graph) (b : ℕ) where
-  -- it is a copy: its low is a completion cost up to b
-  pub record Serves (v : ℕ) (o : Option ℕ) : Type 0 where
-    pub cost : (a : ℕ) → o ≡ some a → completes g v a ≡ true
-    pub small : (a : ℕ) → o ≡ some a → a ≤ b
-
   -- the copy that serves r cycles of each successor of v is marked
   pub record AllMet (marks : List ℕ) (v r : ℕ) : Type 0 where
     pub each-met : (t : ℕ) → Memᴰ t (g.next v) → Met b marks t (low_of g t r)
@@ -46,19 +34,13 @@ module _ (g : Graph) (b : ℕ) where
   pub record Only (S : Copy → Bool) (marks : List ℕ) : Type 0 where
     pub is-in : (v l : ℕ) → 1 ≤ v → l ≤ b → marked b marks v l ≡ true → S (copy_of v l) ≡ true
 
-  -- NOTHING ELSE IS MARKED: a closed set that has the marked copies before, and the copy of v whose low is that of an option, has those after
-  unfoldable pub FromCopy : ℕ → Option ℕ → List ℕ → List ℕ → Type 0
-  FromCopy v o before after =
-      (S : Copy → Bool) → Closed S → ((a : ℕ) → o ≡ some a → S (copy_of v a) ≡ true) → Only S before → Only S after
+  -- NOTHING ELSE IS MARKED: a closed set that has the marked copies before, and the copy of v with the low l, has those after
+  unfoldable pub FromCopy : ℕ → ℕ → List ℕ → List ℕ → Type 0
+  FromCopy v l before after =
+      (S : Copy → Bool) → Closed S → S (copy_of v l) ≡ true → Only S before → Only S after
 
   -- the same for the copies that serve r cycles of the successors of v
   unfoldable pub FromChain : ℕ → ℕ → List ℕ → List ℕ → Type 0
   FromChain v r before after =
       (S : Copy → Bool) → Closed S → ((t a : ℕ) → Memᴰ t (g.next v) → low_of g t r ≡ some a → S (copy_of t a) ≡ true)
       → Only S before → Only S after
-
--- the look-up as a row, and room for the marks
-pub record Ready (g : Graph) (n b : ℕ) (lows marks : List ℕ) : Type 0 where
-  pub budget : b ≤ most_budget
-  pub table : Lows (low_of g) n b lows
-  pub room : cell_count n b ≤ length marks

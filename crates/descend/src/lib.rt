@@ -1,150 +1,164 @@
 // The descent over the copies: a copy hands on to its chain, the chain to each copy it names; no copy is descended into twice.
-// Rests on graph_row, tables. The calls are at most two deep for each cycle of the budget. Below the public calls.
+// Rests on graph_row, cells, tables. The calls are at most two deep for each cycle of the budget. Below the public calls.
 #![tactic(auto)]
 
-ghost use Rattle.std.specs.Prelude.{◌≡◌, false, suc, ◌-◌, ◌≤◌, ◌<◌, length};
+ghost use Rattle.std.specs.Prelude.{◌≡◌, ◌≤◌, ◌<◌, ◌↔◌, true, false, length, IsOk, OnOk, MatchResult};
 ghost use Rattle.base.specs.Cells.{cell_count};
-ghost use Rattle.base.specs.Lists.{option_of, is_none, last_of};
-ghost use Rattle.theory.specs.Completions.{low_of};
+ghost use Rattle.base.specs.Lists.{is_none, last_of};
+ghost use Rattle.base.specs.Options.{option_in};
+ghost use Rattle.theory.specs.Completions.{completes, low_of};
 ghost use Rattle.theory.specs.Tasks.{copies_in};
 ghost use Rattle.formats.specs.Limits.{most_bounded_edges};
 ghost use Rattle.formats.specs.Versions.{Claimed};
-ghost use Rattle.tables.specs.Tables.{Lows, marked_copies};
+ghost use Rattle.tables.specs.Tables.{Lows, marked, marked_copies};
 ghost use Rattle.tables.specs.Rows.{edges_of};
-ghost use Rattle.graph_row.specs.GraphRow.{blocks_in, graph_in, task_in, Flat};
-ghost use Rattle.descend.specs.Marks.{Clear, edges_left, Met, Serves, AllMet, Grown, FromCopy, FromChain, Ready};
+ghost use Rattle.graph_row.specs.GraphRow.{blocks_in, graph_in, task_in};
+ghost use Rattle.descend.specs.Marks.{Clear, AllMet, Grown, FromCopy, FromChain};
 
-use graph_row::{cost_in, degree_in, start_in};
-use tables::{entry, is_marked, mark};
-use words::{MOST_BOUNDED_EDGES, word_at};
+use cells::Layout;
+use graph_row::Graph;
+use words::MOST_BOUNDED_EDGES;
 
-// One copy of v: x is one more than its low, and 0 for none. left is one more than the edges that may still come, and the answer
-// what is left of it: 0 once there are too many, and then the descent stops.
-#[cycle(follow_visit)]
-fn visit(
-    row: &[u16],
-    lows: &[u16],
-    marks: &mut [u8],
-    b: usize,
-    v: usize,
-    x: usize,
-    left: usize,
-) -> usize
-    requires flat { Flat row.now }
-    requires ready { Ready (graph_in row.now) (blocks_in row.now) b lows.now marks.old }
-    requires le_v { (2 ≤ v) × (v ≤ blocks_in row.now) }
-    requires serves { Serves (graph_in row.now) b v (option_of x) }
-    requires left_value { left ≡ edges_left (graph_in row.now) (blocks_in row.now) b marks.old }
-    ensures value { result ≡ edges_left (graph_in row.now) (blocks_in row.now) b marks.new }
-    ensures from_copy { FromCopy (graph_in row.now) b v (option_of x) marks.old marks.new }
-    ensures grown { 0 < result → Grown (graph_in row.now) b marks.old marks.new }
-    ensures met { 0 < result → Met b marks.new v (option_of x) }
-{
-    if x == 0 {
-        return left;
-    }
-    let low = x - 1;
-    if is_marked(marks, b, v, low) {
-        return left;
-    }
-    mark(marks, b, v, low);
-    if v == 2 {
-        return left;
-    }
-    let d = degree_in(row, v);
-    if left <= d {
-        return 0;
-    }
-    let k = cost_in(row, v);
-    follow(row, lows, marks, b, v, low - k, left - d)
+/// The copies have more edges than a bounded sheet may have.
+#[derive(Clone, Copy, Debug, PartialEq, Eq)]
+pub struct TooManyEdges;
+
+/// A descent on its way: the lows by block and cycles, one more than each and 0 for none; the marks of the copies, and their edges.
+#[derive(Drop)]
+struct Descent<'a> {
+    graph: Graph<'a>,
+    layout: Layout,
+    lows: &'a [u16],
+    marks: &'a mut [u8],
+    edges: usize,
+    ghost blocks: { layout.blocks ≡ blocks_in graph.row.now },
+    ghost table: { Lows (low_of (graph_in graph.row.now)) layout.blocks layout.budget lows.now },
 }
 
-// The chain of v, with the cycles left behind v. left and the answer as for a copy.
-#[cycle(follow_visit)]
-fn follow(
-    row: &[u16],
-    lows: &[u16],
-    marks: &mut [u8],
-    b: usize,
-    v: usize,
-    cycles: usize,
-    left: usize,
-) -> usize
-    requires flat { Flat row.now }
-    requires ready { Ready (graph_in row.now) (blocks_in row.now) b lows.now marks.old }
-    requires le_v { (1 ≤ v) × (v ≤ blocks_in row.now) × (cycles ≤ b) }
-    requires left_value { left ≡ edges_left (graph_in row.now) (blocks_in row.now) b marks.old }
-    ensures value { result ≡ edges_left (graph_in row.now) (blocks_in row.now) b marks.new }
-    ensures from_chain { FromChain (graph_in row.now) b v cycles marks.old marks.new }
-    ensures grown { 0 < result → Grown (graph_in row.now) b marks.old marks.new }
-    ensures all_met { 0 < result → AllMet (graph_in row.now) b marks.new v cycles }
-{
-    let a = start_in(row, v);
-    let d = degree_in(row, v);
-    let mut i = 0;
-    let mut l = left;
-    while i < d {
-        let t = word_at(row, a + i);
-        let x = entry(lows, b, t, cycles);
-        l = visit(row, lows, marks, b, t, x, l);
-        if l == 0 {
-            return 0;
+impl<'a> Descent<'a> {
+    ghost use Rattle.descend.specs.Descents.{graph_of, copies_of, IsCounted};
+
+    /// The low of the copy that serves so many cycles in a block.
+    fn low(&self, block: usize, cycles: usize) -> Option<usize>
+        requires { (1 ≤ block) × (block ≤ self.now.layout.blocks) × (cycles ≤ self.now.layout.budget) }
+        ensures { option_in result ≡ low_of (graph_of self.now) block cycles }
+    {
+        let entry = self.lows[self.layout.cell(block, cycles)] as usize;
+        if entry == 0 {
+            return None;
         }
-        i += 1;
+        Some(entry - 1)
     }
-    l
+
+    /// One copy. Where there are too many edges the descent stops.
+    #[cycle(descent)]
+    #[inline(always)]
+    fn visit(&mut self, block: usize, low: usize) -> Result<(), TooManyEdges>
+        requires counted { IsCounted self.old self.old.edges }
+        requires few { self.old.edges ≤ most_bounded_edges }
+        requires place { (1 ≤ block) × (block ≤ self.old.layout.blocks) × (low ≤ self.old.layout.budget) }
+        requires completes { completes (graph_of self.old) block low ≡ true }
+        ensures same_marks { self.new.marks.ghost_name ≡ self.old.marks.ghost_name }
+        ensures graph { self.new.graph ≡ self.old.graph }
+        ensures layout { self.new.layout ≡ self.old.layout }
+        ensures lows { self.new.lows ≡ self.old.lows }
+        ensures counted { IsCounted self.new self.new.edges }
+        ensures ok { IsOk result ↔ (self.new.edges ≤ most_bounded_edges) }
+        ensures source { FromCopy (graph_of self.old) self.old.layout.budget block low self.old.marks.now self.new.marks.now }
+        ensures grown { OnOk result (Grown (graph_of self.old) self.old.layout.budget self.old.marks.now self.new.marks.now) }
+        ensures met { OnOk result (marked self.old.layout.budget self.new.marks.now block low ≡ true) }
+    {
+        let place = self.layout.cell(block, low);
+        if self.marks[place] != 0 {
+            return Ok(());
+        }
+        self.marks[place] = 1;
+        if block == 2 {
+            return Ok(());
+        }
+        let graph = self.graph;
+        self.edges += graph.successors(block).len();
+        if MOST_BOUNDED_EDGES < self.edges {
+            return Err(TooManyEdges);
+        }
+        self.follow(block, low - graph.cost(block))
+    }
+
+    /// The chain of a block, with the cycles left behind it.
+    #[cycle(descent)]
+    #[inline(never)]
+    fn follow(&mut self, block: usize, cycles: usize) -> Result<(), TooManyEdges>
+        requires counted { IsCounted self.old self.old.edges }
+        requires few { self.old.edges ≤ most_bounded_edges }
+        requires place { (1 ≤ block) × (block ≤ self.old.layout.blocks) × (cycles ≤ self.old.layout.budget) }
+        ensures same_marks { self.new.marks.ghost_name ≡ self.old.marks.ghost_name }
+        ensures graph { self.new.graph ≡ self.old.graph }
+        ensures layout { self.new.layout ≡ self.old.layout }
+        ensures lows { self.new.lows ≡ self.old.lows }
+        ensures counted { IsCounted self.new self.new.edges }
+        ensures ok { IsOk result ↔ (self.new.edges ≤ most_bounded_edges) }
+        ensures source { FromChain (graph_of self.old) self.old.layout.budget block cycles self.old.marks.now self.new.marks.now }
+        ensures grown { OnOk result (Grown (graph_of self.old) self.old.layout.budget self.old.marks.now self.new.marks.now) }
+        ensures met { OnOk result (AllMet (graph_of self.old) self.old.layout.budget self.new.marks.now block cycles) }
+    {
+        let graph = self.graph;
+        for &target in graph.successors(block) {
+            let target = target as usize;
+            if let Some(low) = self.low(target, cycles) {
+                self.visit(target, low)?;
+            }
+        }
+        Ok(())
+    }
+
+    /// The start copy of each budget.
+    fn set_out(&mut self, budgets: &[u16]) -> Result<(), TooManyEdges>
+        requires claimed { Claimed budgets.now × (self.old.layout.budget ≡ last_of budgets.now) × (is_none (low_of (graph_of self.old) 1 self.old.layout.budget) ≡ false) }
+        requires clear { Clear self.old.marks.now × (self.old.edges ≡ 0) }
+        requires room { cell_count self.old.layout.blocks self.old.layout.budget ≤ length self.old.marks.now }
+        ensures same_marks { self.new.marks.ghost_name ≡ self.old.marks.ghost_name }
+        ensures edges { MatchResult result
+            (λ _. (self.new.edges ≡ edges_of (graph_of self.old) (copies_of self.old budgets.now)) × (self.new.edges ≤ most_bounded_edges))
+            (λ _. most_bounded_edges < edges_of (graph_of self.old) (copies_of self.old budgets.now)) }
+        ensures marks { OnOk result (marked_copies self.old.layout.blocks self.old.layout.budget self.new.marks.now ≡ copies_of self.old budgets.now) }
+    {
+        for &budget in budgets {
+            if let Some(low) = self.low(1, budget as usize) {
+                self.visit(1, low)?;
+            }
+        }
+        Ok(())
+    }
 }
 
-// A start copy, of a budget: x is one more than its low, and 0 for none. The start is no edge's target, and costs nothing, so its copy is
-// marked outside the cycle. left and the answer as for a copy.
-fn set_out(row: &[u16], lows: &[u16], marks: &mut [u8], b: usize, x: usize, left: usize) -> usize
-    requires flat { Flat row.now }
-    requires ready { Ready (graph_in row.now) (blocks_in row.now) b lows.now marks.old }
-    requires serves { Serves (graph_in row.now) b 1 (option_of x) }
-    requires left_value { left ≡ edges_left (graph_in row.now) (blocks_in row.now) b marks.old }
-    ensures value { result ≡ edges_left (graph_in row.now) (blocks_in row.now) b marks.new }
-    ensures from_copy { FromCopy (graph_in row.now) b 1 (option_of x) marks.old marks.new }
-    ensures grown { 0 < result → Grown (graph_in row.now) b marks.old marks.new }
-    ensures met { 0 < result → Met b marks.new 1 (option_of x) }
-{
-    if x == 0 {
-        return left;
-    }
-    let low = x - 1;
-    if is_marked(marks, b, 1, low) {
-        return left;
-    }
-    mark(marks, b, 1, low);
-    let d = degree_in(row, 1);
-    if left <= d {
-        return 0;
-    }
-    follow(row, lows, marks, b, 1, low, left - d)
-}
-
-// Marks exactly the copies within the budgets bs, of which b is the largest, from the start copy of each, and answers one more than the edges
-// that there is room for beside theirs; 0 where they have too many, and then the descent has stopped.
-pub fn reach(row: &[u16], lows: &[u16], marks: &mut [u8], bs: &[u16], b: usize) -> usize
-    requires flat { Flat row.now }
-    requires claimed { Claimed bs.now × (b ≡ last_of bs.now) × (is_none (low_of (graph_in row.now) 1 b) ≡ false) }
-    requires lows { Lows (low_of (graph_in row.now)) (blocks_in row.now) b lows.now }
-    requires b_in_bounds { cell_count (blocks_in row.now) b ≤ length marks.old }
+/// Marks exactly the copies within the budgets, of which the layout's is the largest, from the start copy of each, and answers the number of
+/// their edges. Where they have too many, the descent stops.
+#[inline(never)]
+pub fn reach(
+    graph: Graph,
+    layout: Layout,
+    lows: &[u16],
+    marks: &mut [u8],
+    budgets: &[u16],
+) -> Result<usize, TooManyEdges>
+    requires blocks { layout.blocks ≡ blocks_in graph.row.now }
+    requires claimed { Claimed budgets.now × (layout.budget ≡ last_of budgets.now) × (is_none (low_of (graph_in graph.row.now) 1 layout.budget) ≡ false) }
+    requires lows { Lows (low_of (graph_in graph.row.now)) layout.blocks layout.budget lows.now }
+    requires room { cell_count layout.blocks layout.budget ≤ length marks.old }
     requires clear { Clear marks.old }
     ensures marks_len_unchanged { length marks.new ≡ length marks.old }
-    ensures value { result ≡ suc most_bounded_edges - edges_of (graph_in row.now) (copies_in (task_in row.now bs.now b)) }
-    ensures marks_after { 0 < result → marked_copies (blocks_in row.now) b marks.new
-        ≡ copies_in (task_in row.now bs.now b) }
+    ensures edges { MatchResult result
+        (λ edges. (edges ≡ edges_of (graph_in graph.entry.row.now) (copies_in (task_in graph.entry.row.now budgets.now layout.budget))) × (edges ≤ most_bounded_edges))
+        (λ _. most_bounded_edges < edges_of (graph_in graph.entry.row.now) (copies_in (task_in graph.entry.row.now budgets.now layout.budget))) }
+    ensures marks { OnOk result (marked_copies layout.blocks layout.budget marks.new ≡ copies_in (task_in graph.entry.row.now budgets.now layout.budget)) }
 {
-    let mut left = MOST_BOUNDED_EDGES + 1;
-    let mut i = 0;
-    while i < bs.len() {
-        let c = word_at(bs, i);
-        let x = entry(lows, b, 1, c);
-        left = set_out(row, lows, marks, b, x, left);
-        if left == 0 {
-            return 0;
-        }
-        i += 1;
-    }
-    left
+    let mut descent = Descent {
+        graph,
+        layout,
+        lows,
+        marks,
+        edges: 0,
+    };
+    descent.set_out(budgets)?;
+    Ok(descent.edges)
 }

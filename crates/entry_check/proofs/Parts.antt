@@ -3,16 +3,25 @@
 use mathlib.Core.Path.{◌≡◌, refl, sym, ap, ◌∙◌}
 use mathlib.Core.Bool.{Bool, true, false, ◌&&◌, ◌||◌, not}
 use mathlib.Core.List.{List}
-use Prim.Native.Nat.{ℕ, ◌≤◌, ◌<◌}
-use native.Mathlib.Omega.{arith}
-use lib.Dec.{eqb, ltb}
-use borrow.Author.Tests.{eq-eqb, ne_eqb, lt-ltb, le-ltb}
+use Prim.Native.Nat.{ℕ}
+use lib.Dec.{eqb, ltb, leb}
+use borrow.Author.Tests.{eq-eqb, ne_eqb, ltb-true, ltb-false, le-leb, lt-leb}
+use Rattle.std.specs.List.{list_any, zip}
+use lib.ListN.{length}
 use Rattle.base.specs.Lists.{any, from, member, last_of}
 use Rattle.base.specs.Checks.{outside}
 use Rattle.base.proofs.Truth.{or_l}
 use Rattle.formats.specs.BoundedSheet.{Heading, block_at, low_at}
 use Rattle.formats.specs.Rule11.{copies_of, entry_fits, bad_entries, no_last_entry, unnamed_start}
 use Rattle.entry_check.specs.Entries.{bad_entry_words}
+use Rattle.entry_check.proofs.Places.{zipped}
+
+at_most : (l b : ℕ) → leb l b ≡ not (ltb b l)
+at_most l b = go (ltb b l) refl
+  where
+    go : (x : Bool) → ltb b l ≡ x → leb l b ≡ not x
+    go true e = lt-leb l b (ltb-true b l e)
+    go false e = le-leb l b (ltb-false b l e)
 
 module _ (h : Heading) (s : List ℕ) where
   -- AN ENTRY e of a budget b
@@ -32,25 +41,18 @@ module _ (h : Heading) (s : List ℕ) where
 
       -- the block v and the low l of the copy, as they were read
       module _ (x : outside 1 h.copies e ≡ false) {v : ℕ} (q : v ≡ block_at h s e) where
-        pub other_block : (v ≡ 1 → ⊥) → false ≡ entry_fits h s b e
-        other_block y = fit_is false false _ x (ne_eqb _ 1 (λ z. y (q ∙ z))) refl
+        pub other_block : (v ≡ 1 → ⊥) → eqb v 1 ≡ entry_fits h s b e
+        other_block y = ne_eqb v 1 y ∙ fit_is false false _ x (ne_eqb _ 1 (λ z. y (q ∙ z))) refl
 
-        module _ (y : v ≡ 1) {l : ℕ} (r : l ≡ low_at h s e) where
-          pub low-above : b < l → false ≡ entry_fits h s b e
-          low-above z = fit_is false true true x (eq-eqb _ 1 (sym q ∙ y)) (lt-ltb b (low_at h s e) (omega arith))
-
-          pub low-within : l ≤ b → true ≡ entry_fits h s b e
-          low-within z = fit_is false true false x (eq-eqb _ 1 (sym q ∙ y)) (le-ltb b (low_at h s e) (omega arith))
-
-  -- the entry e of the budget b, as they were read
-  pub misfit-is : {b e b' e' : ℕ} {r x : Bool} → b ≡ b' → e ≡ e' → r ≡ entry_fits h s b e → not r ≡ x → not (entry_fits h s b' e') ≡ x
-  misfit-is p q z y = (λ i. not (entry_fits h s (sym p i) (sym q i))) ∙ ap not (sym z) ∙ y
+        pub low-tells : v ≡ 1 → {l : ℕ} → l ≡ low_at h s e → leb l b ≡ entry_fits h s b e
+        low-tells y {l} r = at_most l b ∙ ap (λ (l : ℕ). not (ltb b l)) r ∙ fit_is false true _ x (eq-eqb _ 1 (sym q ∙ y)) refl
 
 -- ALL THREE CLAUSES, by their tests
-module _ (h : Heading) (s bs es : List ℕ) {p : Bool} (P : p ≡ bad_entries h s bs es) where
+module _ (h : Heading) (s bs es : List ℕ) (l : length es ≡ length bs) {p : Bool}
+    (P : p ≡ list_any (λ p. not (entry_fits h s p.0 p.1)) (zip bs es)) where
   words_are : (a b c : Bool) → p ≡ a → eqb (last_of es) 0 ≡ b → unnamed_start h s bs es ≡ c → (a || (b || c)) ≡ bad_entry_words h s bs es
-  unfolding bad_entry_words no_last_entry
-  words_are a b c x y z = λ i. (sym x ∙ P) i || (sym y i || sym z i)
+  unfolding bad_entry_words no_last_entry bad_entries
+  words_are a b c x y z = λ i. (sym x ∙ P ∙ zipped (λ b e. not (entry_fits h s b e)) bs es l) i || (sym y i || sym z i)
 
   pub entries-bad : p ≡ true → true ≡ bad_entry_words h s bs es
   entries-bad e = words_are true _ _ e refl refl

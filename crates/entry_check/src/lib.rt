@@ -1,108 +1,83 @@
-// The entries of a bounded sheet, behind any header: c copies and f edges from the word `at` on, the largest budget b, the budgets and an
-// entry for each. Rests on words; the promise is an equation with specs Entries, over formats Rule11.
+// The entries of a bounded sheet, behind any header, each with its budget.
+// Rests on words, bounded_records; the promise is an equation with specs Entries, over formats Rule11.
 #![tactic(auto)]
 
 ghost use Rattle.std.specs.Prelude.{◌≡◌, not, ◌≤◌, length};
+ghost use Rattle.std.specs.List.{list_any, zip};
 ghost use Rattle.base.specs.Lists.{any, from, member};
 ghost use Rattle.formats.specs.Limits.{most_copies};
-ghost use Rattle.formats.specs.BoundedSheet.{heading_of};
-ghost use Rattle.formats.specs.Rule11.{copies_of, entry_fits, bad_entries, Formed};
+ghost use Rattle.formats.specs.Rule11.{copies_of, entry_fits};
+ghost use Rattle.bounded_records.specs.Records.{heading_in};
 ghost use Rattle.entry_check.specs.Entries.{bad_entry_words};
 
-use words::{field, is_outside, word_at};
+use bounded_records::BoundedRecords;
+use words::is_outside;
 
 // THE ENTRIES, each with its budget
 
-// The entry e is 0, or a copy of block 1 with a low of at most the budget `most`.
-fn entry_fits(s: &[u16], at: usize, c: usize, f: usize, b: usize, most: usize, e: usize) -> bool
-    requires { Formed (heading_of at c f b) s.now }
-    ensures { result ≡ entry_fits (heading_of at c f b) s.now most e }
+/// Whether an entry is 0, or a copy of block 1 with a low of at most its budget.
+fn entry_fits(records: BoundedRecords<'_>, budget: u16, entry: u16) -> bool
+    ensures { result ≡ entry_fits (heading_in records.entry) records.entry.words.now budget entry }
 {
-    if e == 0 {
+    let copy = entry as usize;
+    if copy == 0 {
         return true;
     }
-    if is_outside(1, c, e) {
+    if is_outside(1, records.copies, copy) {
         return false;
     }
-    if field(s, at, 3, e, 0) != 1 {
-        return false;
-    }
-    if most < field(s, at, 3, e, 1) {
-        return false;
-    }
-    true
+    records.block(copy) == 1 && records.low(copy) <= budget as usize
 }
 
-// One pass over the budgets: an entry does not fit its budget.
-fn bad_entries(s: &[u16], at: usize, c: usize, f: usize, b: usize, bs: &[u16], es: &[u16]) -> bool
-    requires formed { Formed (heading_of at c f b) s.now }
-    requires es_len { length es.now ≡ length bs.now }
-    ensures { result ≡ bad_entries (heading_of at c f b) s.now bs.now es.now }
+/// Whether an entry does not fit its budget.
+fn any_misfit(records: BoundedRecords<'_>, budgets: &[u16], entries: &[u16]) -> bool
+    ensures { result ≡ list_any (λ p. not (entry_fits (heading_in records.entry) records.entry.words.now p.0 p.1)) (zip budgets.now entries.now) }
 {
-    let mut j = 1;
-    while j <= bs.len() {
-        let most = word_at(bs, j - 1);
-        let e = word_at(es, j - 1);
-        if !entry_fits(s, at, c, f, b, most, e) {
+    budgets
+        .iter()
+        .zip(entries)
+        .any(|(&budget, &entry)| !entry_fits(records, budget, entry))
+}
+
+// THE START COPIES, the first ones
+
+/// Whether an entry is the copy.
+#[tactic(auto, using(crate::proofs::Places::member_any))]
+fn is_named(entries: &[u16], copy: u16) -> bool
+    ensures { result ≡ member copy entries.now }
+{
+    entries.contains(&copy)
+}
+
+/// Whether no entry names one of the start copies. It is found at the latest behind as many as there are entries.
+fn has_unnamed(entries: &[u16], starts: usize) -> bool
+    requires { starts ≤ most_copies }
+    ensures { result ≡ any (λ i. not (member i entries.now)) (from 1 starts) }
+{
+    for copy in 1..starts + 1 {
+        if !is_named(entries, copy as u16) {
             return true;
         }
-        j += 1;
     }
     false
 }
 
-// THE START COPIES, the first k
-
-// An entry is the copy i.
-fn is_named(es: &[u16], i: usize) -> bool
-    ensures { result ≡ member i es.now }
-{
-    let mut j = 1;
-    while j <= es.len() {
-        if i == word_at(es, j - 1) {
-            return true;
-        }
-        j += 1;
-    }
-    false
-}
-
-// One pass over the start copies: no entry names one of them. It is found at the latest behind as many as there are entries.
-fn is_one_unnamed(es: &[u16], k: usize) -> bool
-    requires { k ≤ most_copies }
-    ensures { result ≡ any (λ i. not (member i es.now)) (from 1 k) }
-{
-    let mut i = 1;
-    while i <= k {
-        if !is_named(es, i) {
-            return true;
-        }
-        i += 1;
-    }
-    false
-}
-
-// An entry does not fit its budget, the last entry is 0, or no entry names a start copy.
+/// Whether an entry does not fit its budget, the last entry is 0, or no entry names one of the start copies.
 pub fn bad_entry_words(
-    s: &[u16],
-    at: usize,
-    c: usize,
-    f: usize,
-    b: usize,
-    k: usize,
-    bs: &[u16],
-    es: &[u16],
+    records: BoundedRecords<'_>,
+    starts: usize,
+    budgets: &[u16],
+    entries: &[u16],
 ) -> bool
-    requires formed { Formed (heading_of at c f b) s.now }
-    requires s_value { (copies_of (heading_of at c f b) s.now 1 ≡ from 1 k) × (k ≤ c) }
-    requires es_len { (length es.now ≡ length bs.now) × (1 ≤ length bs.now) }
-    ensures { result ≡ bad_entry_words (heading_of at c f b) s.now bs.now es.now }
+    requires starts { (copies_of (heading_in records) records.words.now 1 ≡ from 1 starts) × (starts ≤ records.copies) }
+    requires entries { (length entries.now ≡ length budgets.now) × (1 ≤ length budgets.now) }
+    ensures { result ≡ bad_entry_words (heading_in records.entry) records.entry.words.now budgets.now entries.now }
 {
-    if bad_entries(s, at, c, f, b, bs, es) {
+    if any_misfit(records, budgets, entries) {
         return true;
     }
-    if word_at(es, es.len() - 1) == 0 {
+    if entries[entries.len() - 1] == 0 {
         return true;
     }
-    is_one_unnamed(es, k)
+    has_unnamed(entries, starts)
 }

@@ -1,2 +1,2 @@
--- faults by their numbers, and the room of the line that tells one: what_of, fault_by, said_size
+-- a fault as the definitions have it, and its line: what_of, fault_of, line_text
 pub mod Faults

@@ -25,6 +25,7 @@ use Rattle.front.specs.Front.{most_words}
 use Rattle.front.proofs.Answer.{area-fits}
 use Rattle.sheet_figures.specs.declared.Reported.{Reported}
 use Rattle.sheet_figures.specs.Says.{Costs, Says}
+use Rattle.unused.specs.Marks.{Marks}
 
 late : before_weighing 0 ≡ false
 unfolding any member over numbers_of numbers_before handled_order front_order weigh_order before_weighing
@@ -45,7 +46,7 @@ module _ (w area out : List ℕ) (wide : most_cells ≤ length area) (long : mos
       }
 
 -- WHAT IS SAID
-module _ (w : List ℕ) {marks old text : List ℕ} {p : ℕ} {r : Reported} where
+module _ (w : List ℕ) {marks : Marks} {old text : List ℕ} {p : ℕ} {r : Reported} where
   pub says-accepted : refused listing_order w ≡ 0 → Says (accepted_figures w) p r marks old text → Says (sheet_figures w) p r marks old text
   says-accepted e S = subst (λ (f : Figures). Says f p r marks old text) (sym (sheet-accepted w e)) S
 

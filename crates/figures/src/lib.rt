@@ -2,7 +2,8 @@
 // Rests on file_words, build, front, sheet_figures; the promise is an equation with calls Report `figures`.
 #![tactic(auto)]
 
-ghost use Rattle.std.specs.Prelude.{◌≡◌, ◌≤◌, ◌<◌, length};
+ghost use Rattle.std.specs.Prelude.{◌≡◌, ◌≤◌, ◌<◌, length, IfSome, Some};
+ghost use Rattle.std.specs.Option.{option_copied};
 ghost use Rattle.std.proofs.Math.Option.{some};
 ghost use Rattle.formats.specs.Limits.{most_blocks, most_cells};
 ghost use Rattle.calls.specs.Report.{figures};
@@ -25,7 +26,7 @@ fn report_in_rows(
     area: &mut [u8],
     out: &mut [u16],
     place: usize,
-    marks: &mut [u8],
+    marks: &mut [bool],
     text: &mut [u8],
 ) -> Reported
     requires most_cells_in_bounds { (most_cells ≤ length area.old) × (most_words ≤ length out.old) }
@@ -34,15 +35,14 @@ fn report_in_rows(
     requires sheet_room_in_bounds { sheet_room ≤ length text.old }
     ensures { Says (figures (some words.now)) place result marks.new text.old text.new × Small result }
 {
-    let a = build(words, 0, area, out);
-    if a != 0 {
-        return report_refused(a as usize, place, marks, text);
+    match build(words, 0, area, out) {
+        Ok(()) => report_built(words, out, area, place, marks, text),
+        Err(refusal) => report_refused(refusal.number() as usize, place, marks, text),
     }
-    report_built(words, out, area, place, marks, text)
 }
 
-// What is said of the graph sheet at a place of a catalogue; the rows are local, once.
-fn report_sheet(words: &[u16], place: usize, marks: &mut [u8], text: &mut [u8]) -> Reported
+// What is said of the graph sheet at a place of a catalogue; its rows are local, once.
+fn report_sheet(words: &[u16], place: usize, marks: &mut [bool], text: &mut [u8]) -> Reported
     requires place_lt_number_limit { place < number_limit }
     requires marks_len { length marks.old ≡ most_blocks }
     requires sheet_room_in_bounds { sheet_room ≤ length text.old }
@@ -53,25 +53,36 @@ fn report_sheet(words: &[u16], place: usize, marks: &mut [u8], text: &mut [u8]) 
     report_in_rows(words, &mut area, &mut out, place, marks, text)
 }
 
-// What is said of the sheet at a place of a catalogue, from its first bytes and whether its length was beyond the words left.
-pub fn report_item(
-    bytes: &[u8],
-    cut: bool,
-    place: usize,
-    marks: &mut [u8],
-    text: &mut [u8],
-) -> Reported
+// What is said of a sheet from its first bytes.
+fn report_whole(bytes: &[u8], place: usize, marks: &mut [bool], text: &mut [u8]) -> Reported
     requires bytes_len_bound { length bytes.now ≤ longer_file }
     requires place_lt_number_limit { place < number_limit }
     requires marks_len { length marks.old ≡ most_blocks }
     requires sheet_room_in_bounds { sheet_room ≤ length text.old }
-    ensures reports { Reports bytes.now cut place result marks.new text.old text.new }
+    ensures reports { Reports (Some bytes.now) place result marks.new text.old text.new }
     ensures size_in_bounds { (result.size ≤ length text.new) × Small result }
 {
-    if cut {
-        return report_cut(place, marks, text);
-    }
     let mut words = [0u16; LONGER_SHEET];
-    let n = words_of(bytes, &mut words);
-    report_sheet(&words[..n], place, marks, text)
+    let count = words_of(bytes, &mut words);
+    report_sheet(&words[..count], place, marks, text)
+}
+
+/// What is said of the sheet at a place of a catalogue, from its first bytes; none where its length was beyond the words left.
+pub fn report_item(
+    bytes: Option<&[u8]>,
+    place: usize,
+    marks: &mut [bool],
+    text: &mut [u8],
+) -> Reported
+    requires bytes_len_bound { IfSome (option_copied bytes) (λ bs. length bs ≤ longer_file) }
+    requires place_lt_number_limit { place < number_limit }
+    requires marks_len { length marks.old ≡ most_blocks }
+    requires sheet_room_in_bounds { sheet_room ≤ length text.old }
+    ensures reports { Reports (option_copied bytes.entry) place result marks.new text.old text.new }
+    ensures size_in_bounds { (result.size ≤ length text.new) × Small result }
+{
+    match bytes {
+        Some(first) => report_whole(first, place, marks, text),
+        None => report_cut(place, marks, text),
+    }
 }

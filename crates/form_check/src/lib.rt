@@ -1,34 +1,65 @@
-// Conditions 2 to 4 and 41 of a graph sheet, by its length and its header alone.
-// Rests on words, budgets; the promise is an equation with formats GraphSheet.
+// Conditions 1 to 4 and 41 of a graph sheet, by its length and its header alone: a sheet that passes them is a view with its records and budgets.
+// Rests on words, headers, budgets, graph_records; the promise is an equation with formats GraphSheet.
 #![tactic(auto)]
 
-ghost use Rattle.std.specs.Prelude.{◌≡◌, ◌||◌, ◌++◌, ◌+◌, ◌≤◌, ◌<◌, length};
+ghost use Rattle.std.specs.Prelude.{◌≡◌, ◌||◌, ◌++◌, IfOk};
 ghost use Rattle.base.specs.Checks.{refused, outside};
-ghost use Rattle.formats.specs.Limits.{least_words, word_limit, least_blocks, most_blocks, least_edges, most_edges};
-ghost use Rattle.formats.specs.GraphSheet.{header_of, header, counts_order, size_order, budget_order};
+ghost use Rattle.base.specs.Refusals.{answer_of};
+ghost use Rattle.formats.specs.Limits.{least_blocks, most_blocks, least_edges, most_edges};
+ghost use Rattle.formats.specs.GraphSheet.{header_of, length_order, counts_order, size_order, budget_order};
+ghost use Rattle.form_check.specs.Formed.{IsFormed};
 
-use budgets::budget_answer;
-use words::{LEAST_BLOCKS, LEAST_EDGES, MOST_BLOCKS, MOST_EDGES, is_either_outside};
+use base::Refusal;
+use budgets::claimed_budgets;
+use graph_records::GraphRecords;
+use headers::read_header;
+use words::{LEAST_BLOCKS, LEAST_EDGES, LEAST_WORDS, MOST_BLOCKS, MOST_EDGES, is_either_outside};
 
-// Condition 2: N or E outside its limits.
-pub fn bad_counts(n: usize, m: usize) -> bool
-    ensures { result ≡ (outside least_blocks most_blocks n || outside least_edges most_edges m) }
+/// Condition 2: the number of blocks or of edges is outside its limits.
+pub fn bad_counts(blocks: usize, edges: usize) -> bool
+    ensures { result ≡ (outside least_blocks most_blocks blocks || outside least_edges most_edges edges) }
 {
-    is_either_outside(LEAST_BLOCKS, MOST_BLOCKS, n, LEAST_EDGES, MOST_EDGES, m)
+    is_either_outside(
+        LEAST_BLOCKS,
+        MOST_BLOCKS,
+        blocks,
+        LEAST_EDGES,
+        MOST_EDGES,
+        edges,
+    )
 }
 
-// Conditions 2 to 4 and 41, in this order, behind the header that was read: N and E, and the word at which the records begin. A row that has
-// its length has its budgets.
-pub fn form_answer(s: &[u16], at: usize, n: usize, m: usize) -> u16
-    requires least_words_in_bounds { (least_words ≤ length s.now) × (header_of at n m ≡ header s.now) }
-    requires n_lt_word_limit { (n < word_limit) × (m < word_limit) × (at ≤ 4 + word_limit) }
-    ensures { result ≡ refused (counts_order ++ size_order ++ budget_order) s.now }
-{
-    if bad_counts(n, m) {
-        return 2;
+/// A graph sheet that passed 1 to 4 and 41: its header is read, and its budgets and records are there.
+#[derive(Clone, Copy)]
+pub struct FormedSheet<'a> {
+    pub records: GraphRecords<'a>,
+    pub budgets: &'a [u16],
+    pub ghost formed: { IsFormed (header_of records.start records.blocks records.edges) budgets.now records.words.now },
+}
+
+impl<'a> FormedSheet<'a> {
+    /// 1 to 4 and 41, in this order. A row that has its length has its budgets.
+    pub fn read(words: &'a [u16]) -> Result<FormedSheet<'a>, Refusal>
+        ensures answer { answer_of result ≡ refused (length_order ++ counts_order ++ size_order ++ budget_order) words.now }
+        ensures words { IfOk result (λ sheet. sheet.records.words.now ≡ words.now) }
+    {
+        if words.len() < LEAST_WORDS {
+            return Err(Refusal::TooShort);
+        }
+        let header = read_header(words);
+        if bad_counts(header.blocks, header.edges) {
+            return Err(Refusal::CountsOutside);
+        }
+        if words.len() != header.records + 2 * header.blocks + 2 * header.edges {
+            return Err(Refusal::WrongLength);
+        }
+        let budgets = claimed_budgets(words)?;
+        let records = GraphRecords {
+            words,
+            start: header.records,
+            blocks: header.blocks,
+            edges: header.edges,
+        };
+        Ok(FormedSheet { records, budgets })
     }
-    if s.len() != at + 2 * n + 2 * m {
-        return 3;
-    }
-    budget_answer(s)
 }

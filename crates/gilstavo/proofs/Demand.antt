@@ -1,5 +1,5 @@
 -- DEMAND 3 ON WORDS: four words stand faithfully for a walk, so a run of the exported calls keeps the demand as one by value does.
--- Rests on theory Runs, calls Forms, walk_words Words, specs Steps.
+-- Rests on theory Runs, calls Forms, walk Words, specs Steps.
 use mathlib.Core.Path.{refl}
 use mathlib.Core.List.{List}
 use Prim.Native.Nat.{ℕ, zero, suc}
@@ -9,8 +9,8 @@ use Rattle.theory.proofs.Runs.{SameStep}
 use Rattle.calls.specs.Moves.{Budgeted, starting_walk, moved, guarded_reply, bounded_move}
 use Rattle.calls.specs.Starts.{guarded_start, bounded_start}
 use Rattle.calls.proofs.Forms.{Faithful, held-demand3, held-from-start}
-use Rattle.walk_words.specs.WalkWords.{walk_in}
-use Rattle.walk_words.proofs.Words.{walk-back}
+use Rattle.walk.specs.WalkWords.{walk_in}
+use Rattle.walk.proofs.Words.{walk-back}
 use Rattle.gilstavo.specs.Steps.{in_words, guarded_outset, bounded_outset, guarded_step, bounded_step, on_words, WordsKeepDemand3, WordsKeepFromStart}
 
 -- an answer with the walk after it, which is the old one under a refusal

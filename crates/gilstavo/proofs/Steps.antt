@@ -1,23 +1,22 @@
 -- The words after a step, as the code makes it.
--- Rests on base Orders, calls Moves, walk_words WalkWords, specs Steps.
+-- Rests on base Orders and Refusals, calls Moves, walk Walks and WalkWords, specs Steps.
 use mathlib.Core.Path.{◌≡◌, ap, ◌∙◌}
 use mathlib.Core.List.{List}
 use Prim.Native.Nat.{ℕ}
+use Rattle.std.specs.Prelude.{Result, Ok, Err}
+use Rattle.base.specs.Refusals.{answer_of}
+use Rattle.base.specs.declared.refusal.Refusal.{Refusal}
 use Rattle.base.proofs.Orders.{refused-lent, accepted-lent}
+use Rattle.base.proofs.Refusals.{is-refused}
 use Rattle.theory.specs.Machines.{Reply}
 use Rattle.calls.specs.Moves.{Budgeted}
-use Rattle.walk_words.specs.WalkWords.{walk_words}
-use Rattle.gilstavo.specs.Steps.{in_words}
+use Rattle.walk.specs.declared.Walk.{Walk}
+use Rattle.walk.specs.Walks.{set_on}
+use Rattle.walk.specs.WalkWords.{walk_words}
+use Rattle.gilstavo.specs.Steps.{in_words, words_after}
 
-module _ (row : List ℕ) (r : Reply Budgeted) {a : ℕ} (e : a ≡ r.answer) where
-  pub step-answer : a ≡ (in_words row r).answer
-  unfolding in_words
-  step-answer = e
-
-  pub step-refused : (a ≡ 0 → ⊥) → row ≡ (in_words row r).after
-  unfolding in_words
-  step-refused n = refused-lent row (walk_words r.after) r.answer (λ z. n (e ∙ z))
-
-  pub step-accepted : a ≡ 0 → {new : List ℕ} {s : Budgeted} → new ≡ walk_words s → s ≡ r.after → new ≡ (in_words row r).after
-  unfolding in_words
-  step-accepted z p q = rw (← e, z) (accepted-lent row (walk_words r.after) (p ∙ ap walk_words q))
+pub words-after : (row : List ℕ) (R : Reply Budgeted) (s : Budgeted) (r : Result Walk Refusal) → answer_of r ≡ R.answer → set_on s r ≡ R.after
+    → words_after row r ≡ (in_words row R).after
+unfolding in_words
+words-after row R s (Ok w) e f = rw (← e) (accepted-lent row (walk_words R.after) (ap walk_words f))
+words-after row R s (Err x) e f = refused-lent row (walk_words R.after) R.answer (λ z. is-refused x (e ∙ z))

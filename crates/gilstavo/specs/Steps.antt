@@ -1,16 +1,24 @@
 -- THE CALLS ON WORDS, as C and Rust have them: a start and a move are those of the walk that four words stand for, and under a refusal the words
--- stay. Rests on base Checks, theory Machines, calls Moves, Starts and Demand, walk_words WalkWords.
-use Rattle.std.specs.Prelude.{List, ℕ}
+-- stay. Rests on base Checks, theory Machines, calls Moves, Starts and Demand, walk WalkWords.
+use Rattle.std.specs.Prelude.{List, ℕ, Result, Ok, Err}
+use Rattle.base.specs.declared.refusal.Refusal.{Refusal}
 use Rattle.base.specs.Checks.{lent_after}
 use Rattle.theory.specs.Machines.{Reply}
 use Rattle.calls.specs.Moves.{Budgeted, starting_walk, Move, guarded_reply, bounded_move}
 use Rattle.calls.specs.Starts.{Outset, bounded_start}
 use Rattle.calls.specs.Demand.{Calls, start_reply, KeepsDemand3, KeepsFromStart}
-use Rattle.walk_words.specs.WalkWords.{walk_in, walk_words}
+use Rattle.walk.specs.declared.Walk.{Walk}
+use Rattle.walk.specs.Walks.{walk_of}
+use Rattle.walk.specs.WalkWords.{walk_in, walk_words}
 
 -- the words after a reply
 unfoldable pub in_words : List ℕ → Reply Budgeted → Reply (List ℕ)
 in_words row r = record { answer = r.answer; after = lent_after r.answer row (walk_words r.after) }
+
+-- the words after a call that answers a walk: a refusal leaves them
+abbrev pub words_after : List ℕ → Result Walk Refusal → List ℕ
+words_after row (Ok after) = walk_words (walk_of after)
+words_after row (Err r) = row
 
 unfoldable pub guarded_outset : List ℕ → ℕ → List ℕ → Outset → Reply (List ℕ)
 guarded_outset w h row i = in_words row (start_reply w h (walk_in row) i)

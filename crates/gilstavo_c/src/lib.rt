@@ -13,7 +13,7 @@ ghost use Rattle.calls.specs.Weigh.{weighed};
 ghost use Rattle.calls.specs.Build.{built};
 ghost use Rattle.operation_sheet.specs.Operations.{convert};
 ghost use Rattle.reader.specs.Placed.{Placed};
-ghost use Rattle.walk_words.specs.WalkWords.{walk_in, walk_words};
+ghost use Rattle.walk.specs.WalkWords.{walk_in, walk_words};
 ghost use Rattle.gilstavo.specs.Steps.{guarded_outset, bounded_outset, guarded_step, bounded_step};
 
 // 1 to 4, 41, 5 to 8, else 0.

@@ -1,86 +1,121 @@
-// A public call on a graph sheet: its conditions 1 to 8 in order, with 41 behind 4; and with the handler's cost, which brings 43 behind 41.
-// Rests on words, headers, budgets, form_check, edge_check; the promises are equations with formats GraphSheet.
+// A public call on a graph sheet: its conditions 1 to 8 in order, with 41 behind 4; and with the handler's cost, which brings 43 behind 41. A
+// sheet that passes them is a view that carries it, so that nothing behind asks for it again.
+// Rests on words, chains, graph_records, form_check, edge_check; the promises are equations with formats GraphSheet.
 #![tactic(auto)]
 
-ghost use Rattle.std.specs.Prelude.{◌≡◌};
+ghost use Rattle.std.specs.Prelude.{◌≡◌, ◌≤◌, length, IfOk};
 ghost use Rattle.base.specs.Checks.{refused};
-ghost use Rattle.formats.specs.GraphSheet.{header_of, cost_fits, bad_costs, Recorded};
+ghost use Rattle.base.specs.Refusals.{answer_of};
+ghost use Rattle.formats.specs.Limits.{most_edges};
+ghost use Rattle.formats.specs.GraphSheet.{header_of, cost_fits, bad_costs, successors, Sound};
 ghost use Rattle.formats.specs.GraphSheet.{sheet_refusal, handled_refusal};
-ghost use Rattle.graph_check.specs.Headers.{edge_stage};
+ghost use Rattle.chains.specs.Rest.{rest};
+ghost use Rattle.graph_records.specs.Records.{header_in};
+ghost use Rattle.graph_check.specs.Headers.{edge_stage, IsSound};
 
-use budgets::bad_handler;
-use edge_check::{bad_chains, bad_targets};
-use form_check::form_answer;
-use headers::read_header;
-use words::{LEAST_WORDS, field};
+use base::Refusal;
+use chains::Chain;
+use edge_check::{has_bad_chain, has_bad_target};
+use form_check::FormedSheet;
+use graph_records::GraphRecords;
 
-// Blocks 1 and 2 cost 0, every other block more.
-fn cost_fits(v: usize, c: usize) -> bool
-    ensures { result ≡ cost_fits v c }
-{
-    if v < 3 {
-        return c == 0;
-    }
-    0 < c
+/// A graph sheet that passed all its conditions: its header is read, its budgets are 1 to 4 that rise, and its records hold a graph.
+#[derive(Clone, Copy)]
+pub struct SoundSheet<'a> {
+    pub records: GraphRecords<'a>,
+    pub budgets: &'a [u16],
+    pub ghost sound: { IsSound (header_of records.start records.blocks records.edges) budgets.now records.words.now },
 }
 
-// Condition 5: a block whose cost does not fit.
-pub fn bad_costs(s: &[u16], at: usize, n: usize, m: usize) -> bool
-    requires { Recorded (header_of at n m) s.now }
-    ensures { result ≡ bad_costs (header_of at n m) s.now }
+// Blocks 1 and 2 cost 0, every other block more.
+fn cost_fits(block: usize, cost: usize) -> bool
+    ensures { result ≡ cost_fits block cost }
 {
-    let mut v = 1;
-    while v <= n {
-        let c = field(s, at, 2, v, 0);
-        if !cost_fits(v, c) {
+    if block < 3 {
+        return cost == 0;
+    }
+    0 < cost
+}
+
+/// Condition 5: a block whose cost does not fit.
+pub fn has_bad_cost(records: GraphRecords<'_>) -> bool
+    ensures { result ≡ bad_costs (header_in records.entry) records.entry.words.now }
+{
+    for block in 1..records.blocks + 1 {
+        let cost = records.cost(block);
+        if !cost_fits(block, cost) {
             return true;
         }
-        v += 1;
     }
     false
 }
 
-// Conditions 6 to 8 of a sheet whose records are there.
-pub fn edge_answer(s: &[u16], at: usize, n: usize, m: usize) -> u16
-    requires { Recorded (header_of at n m) s.now }
-    ensures { result ≡ refused (edge_stage (header_of at n m)) s.now }
+/// Conditions 6 to 8 of a sheet whose records are there.
+pub fn check_edges(records: GraphRecords<'_>) -> Result<(), Refusal>
+    ensures { answer_of result ≡ refused (edge_stage (header_in records.entry)) records.entry.words.now }
 {
-    if bad_targets(s, at, n, m) {
-        return 6;
+    if has_bad_target(records) {
+        return Err(Refusal::BadTarget);
     }
-    if bad_chains(s, at, n, m) {
-        return 7;
+    if has_bad_chain(records) {
+        return Err(Refusal::BadChains);
     }
-    if field(s, at, 2, 2, 1) != 0 {
-        return 8;
+    if records.first_edge(2) != 0 {
+        return Err(Refusal::ExitChain);
     }
-    0
+    Ok(())
 }
 
-// The first of the conditions 1 to 4, 41, 43 of the handler's cost h, and 5 to 8 that holds, 0 where none does.
-pub fn check_handled(s: &[u16], h: u16) -> u16
-    ensures { result ≡ handled_refusal s.now h }
+/// The successors of a block of records that hold a graph, in order.
+pub fn successors_in<'a>(records: GraphRecords<'a>, block: usize) -> Chain<'a>
+    requires sound { Sound (header_in records) records.words.now }
+    requires block { (1 ≤ block) × (block ≤ records.blocks) }
+    ensures value { rest result ≡ successors (header_in records.entry) records.entry.words.now block }
+    ensures few { length (rest result) ≤ most_edges }
 {
-    if s.len() < LEAST_WORDS {
-        return 1;
-    }
-    let x = read_header(s);
-    let a = form_answer(s, x.records, x.blocks, x.edges);
-    if a != 0 {
-        return a;
-    }
-    if bad_handler(s, h) {
-        return 43;
-    }
-    if bad_costs(s, x.records, x.blocks, x.edges) {
-        return 5;
-    }
-    edge_answer(s, x.records, x.blocks, x.edges)
+    let first = records.first_edge(block);
+    Chain::new(
+        records.words,
+        records.start + 2 * records.blocks,
+        records.edges,
+        first,
+    )
 }
 
-// The first of the conditions 1 to 4, 41 and 5 to 8 that holds, 0 where none does: no budget is below 0.
-pub fn check_graph(s: &[u16]) -> u16
-    ensures { result ≡ sheet_refusal s.now }
+impl<'a> SoundSheet<'a> {
+    /// The first of the conditions 1 to 4, 41, 43 of the handler's cost, and 5 to 8 that holds; else the sheet.
+    pub fn check(words: &'a [u16], handler: u16) -> Result<SoundSheet<'a>, Refusal>
+        ensures answer { answer_of result ≡ handled_refusal words.now handler }
+        ensures words { IfOk result (λ sheet. sheet.records.words.now ≡ words.now) }
+    {
+        let formed = FormedSheet::read(words)?;
+        if formed.budgets[0] < handler {
+            return Err(Refusal::DearHandler);
+        }
+        if has_bad_cost(formed.records) {
+            return Err(Refusal::BadCost);
+        }
+        check_edges(formed.records)?;
+        Ok(SoundSheet {
+            records: formed.records,
+            budgets: formed.budgets,
+        })
+    }
+
+    /// The successors of a block, in order.
+    pub fn successors(self, block: usize) -> Chain<'a>
+        requires { (1 ≤ block) × (block ≤ self.records.blocks) }
+        ensures value { rest result ≡ successors (header_in self.entry.records) self.entry.records.words.now block }
+        ensures few { length (rest result) ≤ most_edges }
+    {
+        successors_in(self.records, block)
+    }
+}
+
+/// The first of the conditions 1 to 4, 41 and 5 to 8 that holds, else the sheet: no budget is below 0.
+pub fn check_graph(words: &[u16]) -> Result<SoundSheet<'_>, Refusal>
+    ensures answer { answer_of result ≡ sheet_refusal words.now }
+    ensures words { IfOk result (λ sheet. sheet.records.words.now ≡ words.now) }
 {
-    check_handled(s, 0)
+    SoundSheet::check(words, 0)
 }

@@ -1,6 +1,6 @@
 -- Laws that the guarded move's functions cite.
 -- Rests on base, theory, formats, calls, graph_row, tables, weigh_sheet, walk.
--- the chosen successor, by its number in a row: no-choice, choice-fits, choice-is
+-- the chosen successor, by its number: no-choice, choice-fits, choice-is, target-fits
 pub mod Choices
 -- the monitor's reply, case by case: ended, unchosen, count_fits, diverts, enters
 pub mod Replies

@@ -12,7 +12,7 @@ use Rattle.base.proofs.Orders.{inside_of}
 use Rattle.base.proofs.Numbers.{nth_in}
 use Rattle.formats.specs.Limits.{most_budget}
 use Rattle.formats.specs.Versions.{budget_count, budgets_in}
-use Rattle.formats.specs.GraphSheet.{header, handled_refusal}
+use Rattle.formats.specs.GraphSheet.{Header, header, handled_refusal}
 use Rattle.formats.proofs.Budgets.{budgets-there, largest-most}
 use Rattle.formats.proofs.Handler.{lowered-count, AcceptedWith, accepted-with}
 use Rattle.calls.specs.SheetGraph.{task, graph}
@@ -23,6 +23,10 @@ use Rattle.calls.proofs.Weigh.{Passed, weighs-e, late-area}
 use Rattle.graph_row.specs.GraphRow.{blocks_in, graph_in}
 use Rattle.flatten.specs.Decoded.{Decoded}
 use Rattle.weigh_sheet.proofs.Answers.{Weighs}
+
+-- a row that the sheet is decoded into has its blocks
+pub blocks-decoded : {w row : List ℕ} {g : Header} → g ≡ header w → Decoded (header w) w row → g.blocks ≡ blocks_in row
+blocks-decoded q D = ap (λ (x : Header). x.blocks) q ∙ sym D.blocks
 
 -- weighing's answer a and the area after it, with the handler's cost h
 module _ (w : List ℕ) (h : ℕ) (area : List ℕ) {a : ℕ} {after : List ℕ} (W : Weighs w h area a after) where
@@ -48,21 +52,22 @@ module _ (w : List ℕ) (h : ℕ) (area : List ℕ) {a : ℕ} {after : List ℕ}
       pub area-table : {row : List ℕ} → Decoded (header w) w row → Table (graph_in row) (blocks_in row) l after
       area-table D = rw (D.same, D.blocks) sheet-table
 
--- THE BUDGET WITH THE NUMBER k, of m: t tells whether k is outside them
-module _ (w : List ℕ) (h : ℕ) (ok : handled_refusal w h ≡ 0) {m : ℕ} (e : m ≡ budget_count w) (k : ℕ) {t : Bool} (g : t ≡ outside 1 m k) where
+-- THE BUDGET WITH THE NUMBER k, of the budgets bs: t tells whether k is outside them
+module _ (w : List ℕ) (h : ℕ) (ok : handled_refusal w h ≡ 0) {bs : List ℕ} (e : bs ≡ budgets_in w) (k : ℕ) {t : Bool} (g : t ≡ outside 1 (length bs) k) where
   abbrev A : AcceptedWith w h
   A = accepted-with w h ok
 
   pub number_is : {c : Bool} → t ≡ c → outside 1 (length (task w h).budgets) k ≡ c
-  number_is c =
-      ap (λ (n : ℕ). outside 1 n k) (lowered-count h (budgets_in w) ∙ budgets-there w A.sheet.there ∙ sym e) ∙ sym g ∙ c
+  number_is c = ap (λ (n : ℕ). outside 1 n k) (lowered-count h (budgets_in w) ∙ ap length (sym e)) ∙ sym g ∙ c
 
   module _ (inside : t ≡ false) where
-    pub counted : (1 ≤ k) × (k ≤ budget_count w)
-    counted = let p = inside_of 1 m k (sym g ∙ inside) in (p.0, omega (arith, e))
-
     pub listed : (1 ≤ k) × (k ≤ length (task w h).budgets)
     listed = inside_of 1 (length (task w h).budgets) k (number_is inside)
+
+    pub counted : (1 ≤ k) × (k ≤ budget_count w)
+    counted =
+        let n : length (task w h).budgets ≡ budget_count w = lowered-count h (budgets_in w) ∙ budgets-there w A.sheet.there in
+        (listed.0, omega (arith, listed.1, n))
 
     -- it is at most the largest, for which the area is laid out
     pub within : {b l : ℕ} → b ≡ nth (task w h).budgets k → l ≡ (task w h).largest → (b ≤ l) × (l ≤ most_budget)

@@ -1,126 +1,114 @@
 // A public call: a guarded move on a graph sheet with the handler's cost, with the walk by value.
-// Rests on weigh_sheet, headers, lowered, graph_row, look, walk; the promise is calls Moves.
+// Rests on weigh_sheet, graph_check, lowered, graph_row, look, walk; the promise is calls Moves.
 #![tactic(auto)]
 
-ghost use Rattle.std.specs.Prelude.{◌≡◌, ◌≤◌, length};
+ghost use Rattle.std.specs.Prelude.{◌≡◌, ◌≤◌};
+ghost use Rattle.base.specs.Checks.{refused};
+ghost use Rattle.base.specs.Refusals.{answer_of};
 ghost use Rattle.theory.specs.Machines.{reply};
 ghost use Rattle.theory.specs.Walks.{InShape, monitor};
-ghost use Rattle.formats.specs.Limits.{most_budget};
-ghost use Rattle.formats.specs.GraphSheet.{handled_refusal};
-ghost use Rattle.calls.specs.SheetGraph.{task};
 ghost use Rattle.calls.specs.Area.{Table};
-ghost use Rattle.calls.specs.Weigh.{task_area};
+ghost use Rattle.calls.specs.Weigh.{front_order};
 ghost use Rattle.calls.specs.Moves.{reply_with, guarded_move};
-ghost use Rattle.graph_row.specs.GraphRow.{blocks_in, graph_in, Flat};
-ghost use Rattle.walk.specs.Walks.{state_of, walk_of, reply_of};
+ghost use Rattle.graph_row.specs.GraphRow.{blocks_in, graph_in};
+ghost use Rattle.walk.specs.Walks.{state_of, walk_of, after_of, reply_of};
 
-use graph_row::{ROW_WORDS, blocks_in, cost_in, degree_in, start_in};
-use headers::read_budgets;
+use base::Refusal;
+use cells::Layout;
+use graph_check::SoundSheet;
+use graph_row::{Graph, ROW_WORDS};
 use look::look_up;
 use lowered::{lowered_budget, lowered_largest};
-use walk::{Moved, Walk, divert, enter, has_ended, out_of_shape};
+use walk::Walk;
 use weigh_sheet::{BLOCK_MASKS, COST_MASKS, front, weigh_into};
-use words::{is_outside, word_at};
+use words::is_outside;
 
-// "choice 0 or beyond the place's successors", "the walk has ended", "walk out of shape"
-const NO_CHOICE: u16 = 31;
-
-const ENDED: u16 = 32;
-
-const OUT_OF_SHAPE: u16 = 33;
-
-// The monitor's reply to a choice, for a walk in shape with the budget b: 32 after the end, 31 for no such choice, else 0 and the walk after
-// the edge. The area is laid out for the largest budget l.
-fn monitor_reply(row: &[u16], area: &[u8], l: usize, b: usize, w: Walk, choice: usize) -> Moved
-    requires flat { Flat row.now }
-    requires table { Table (graph_in row.now) (blocks_in row.now) l area.now }
-    requires b_le_l { (b ≤ l) × (l ≤ most_budget) × InShape (blocks_in row.now) 2 b (state_of w) }
-    ensures { reply_of result ≡ reply_with w.budget (reply (monitor (graph_in row.now) b) (state_of w) choice) }
+// The monitor's reply to a choice, for a walk in shape with this budget: the walk after the edge. The area is laid out for the largest budget.
+fn monitor_reply(
+    graph: Graph<'_>,
+    area: &[u8],
+    layout: Layout,
+    budget: usize,
+    walk: Walk,
+    choice: u16,
+) -> Result<Walk, Refusal>
+    requires table { Table (graph_in graph.row.now) (blocks_in graph.row.now) layout.budget area.now }
+    requires in_shape { (layout.blocks ≡ blocks_in graph.row.now) × (budget ≤ layout.budget) × InShape (blocks_in graph.row.now) 2 budget (state_of walk) }
+    ensures { reply_of walk result ≡ reply_with walk.budget (reply (monitor (graph_in graph.entry.row.now) budget) (state_of walk) choice) }
 {
-    let end = w.end;
-    if has_ended(end) {
-        return Moved {
-            answer: ENDED,
-            walk: w,
-        };
+    if walk.end.has_ended() {
+        return Err(Refusal::Ended);
     }
-    let v = w.place as usize;
-    let d = degree_in(row, v);
-    if is_outside(1, d, choice) {
-        return Moved {
-            answer: NO_CHOICE,
-            walk: w,
-        };
+    let choice = choice as usize;
+    let successors = graph.successors(walk.place as usize);
+    if is_outside(1, successors.len(), choice) {
+        return Err(Refusal::NoChoice);
     }
-    let a = start_in(row, v);
-    let t = word_at(row, a + (choice - 1));
-    let count = w.count as usize;
-    let fitting = look_up(area, l, t, b - count);
-    if fitting.low == 0 {
-        let after = divert(w, w.count);
-        return Moved {
-            answer: 0,
-            walk: after,
-        };
-    }
-    let cost = cost_in(row, t);
-    let after = enter(t, Walk::EXIT_PLACE, count + cost, w.budget);
-    Moved {
-        answer: 0,
-        walk: after,
+    let target = successors[choice - 1] as usize;
+    let count = walk.count as usize;
+    match look_up(area, layout, target, budget - count).low {
+        None => Ok(walk.divert(walk.count)),
+        Some(_) => {
+            let cost = graph.cost(target);
+            Ok(walk.enter(target, Walk::EXIT_PLACE, count + cost))
+        }
     }
 }
 
 // A move on a sheet that passes 1 to 8, 41 and 43, with area enough: it is decoded and weighed into the area, 9, the budget's number and the
-// walk are checked, and the monitor replies. The budgets are lowered by the handler's cost h.
-fn guard(s: &[u16], h: u16, area: &mut [u8], w: Walk, choice: u16) -> Moved
-    requires { (handled_refusal s.now h ≡ 0) × (task_area (task s.now h) ≤ length area.old) }
-    ensures answer_value { result.answer
-        ≡ (guarded_move s.now h (walk_of w) (record { choice = choice; area = area.old })).answer }
-    ensures walk_value { walk_of result.walk
-        ≡ (guarded_move s.now h (walk_of w) (record { choice = choice; area = area.old })).walk }
+// walk are checked, and the monitor replies. The budgets are lowered by the handler's cost.
+fn guard(
+    sheet: SoundSheet<'_>,
+    handler: u16,
+    area: &mut [u8],
+    walk: Walk,
+    choice: u16,
+) -> Result<Walk, Refusal>
+    requires { 0 ≡ refused front_order (record { sheet = sheet.records.words.now; handler = handler; area = area.old }) }
+    ensures answer_value { answer_of result
+        ≡ (guarded_move sheet.entry.records.words.now handler (walk_of walk) (record { choice = choice; area = area.old })).answer }
+    ensures walk_value { after_of walk result
+        ≡ (guarded_move sheet.entry.records.words.now handler (walk_of walk) (record { choice = choice; area = area.old })).walk }
     ensures area_after { area.new
-        ≡ (guarded_move s.now h (walk_of w) (record { choice = choice; area = area.old })).area }
+        ≡ (guarded_move sheet.entry.records.words.now handler (walk_of walk) (record { choice = choice; area = area.old })).area }
 {
-    let l = lowered_largest(s, h);
+    let words = sheet.records.words;
+    let largest = lowered_largest(words, handler);
     let mut row = [0u16; ROW_WORDS];
     let mut nexts = [0u64; BLOCK_MASKS];
     let mut has = [0u64; COST_MASKS];
-    let a = weigh_into(s, &mut row, &mut nexts, &mut has, area, l);
-    if a != 0 {
-        return Moved { answer: a, walk: w };
+    weigh_into(sheet, &mut row, &mut nexts, &mut has, area, largest)?;
+    let number = walk.budget as usize;
+    if is_outside(1, sheet.budgets.len(), number) {
+        return Err(Refusal::Outside);
     }
-    let at = read_budgets(s);
-    let k = w.budget as usize;
-    if is_outside(1, at.count, k) {
-        return Moved {
-            answer: OUT_OF_SHAPE,
-            walk: w,
-        };
+    let layout = Layout {
+        blocks: sheet.records.blocks,
+        budget: largest,
+    };
+    let budget = lowered_budget(words, handler, number);
+    if walk.out_of_shape(layout.blocks, Walk::EXIT_PLACE, budget) {
+        return Err(Refusal::Outside);
     }
-    let n = blocks_in(&row);
-    let b = lowered_budget(s, h, k);
-    if out_of_shape(n, Walk::EXIT_PLACE, b, w) {
-        return Moved {
-            answer: OUT_OF_SHAPE,
-            walk: w,
-        };
-    }
-    monitor_reply(&row, area, l, b, w, choice as usize)
+    monitor_reply(Graph { row: &row }, area, layout, budget, walk, choice)
 }
 
-// A guarded move: the sheet and the area's length are checked, then the rest.
-pub fn guarded_move(s: &[u16], h: u16, area: &mut [u8], w: Walk, choice: u16) -> Moved
-    ensures answer_value { result.answer
-        ≡ (guarded_move s.now h (walk_of w) (record { choice = choice; area = area.old })).answer }
-    ensures walk_value { walk_of result.walk
-        ≡ (guarded_move s.now h (walk_of w) (record { choice = choice; area = area.old })).walk }
+/// The walk after a guarded move, with the sheet's budgets lowered by the handler's cost; else the first condition that holds of 1 to 8, 41, 43,
+/// 21, 9, and 33, 32, 31 of the walk and the choice. The work area has at least a byte for each block and each number up to the largest budget.
+pub fn guarded_move(
+    sheet: &[u16],
+    handler: u16,
+    area: &mut [u8],
+    walk: Walk,
+    choice: u16,
+) -> Result<Walk, Refusal>
+    ensures answer_value { answer_of result
+        ≡ (guarded_move sheet.now handler (walk_of walk) (record { choice = choice; area = area.old })).answer }
+    ensures walk_value { after_of walk result
+        ≡ (guarded_move sheet.now handler (walk_of walk) (record { choice = choice; area = area.old })).walk }
     ensures area_after { area.new
-        ≡ (guarded_move s.now h (walk_of w) (record { choice = choice; area = area.old })).area }
+        ≡ (guarded_move sheet.now handler (walk_of walk) (record { choice = choice; area = area.old })).area }
 {
-    let a = front(s, h, area);
-    if a != 0 {
-        return Moved { answer: a, walk: w };
-    }
-    guard(s, h, area, w, choice)
+    let sound = front(sheet, handler, area)?;
+    guard(sound, handler, area, walk, choice)
 }

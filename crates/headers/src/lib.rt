@@ -14,123 +14,123 @@ use words::word_at;
 
 // THE VERSION AND THE BUDGETS, of both kinds of sheet
 
-// The second version begins with 0.
-pub fn is_second(s: &[u16]) -> bool
-    requires { least_words ≤ length s.now }
-    ensures { result ≡ is_second s.now }
+/// The second version begins with 0.
+pub fn is_second(words: &[u16]) -> bool
+    requires { least_words ≤ length words.now }
+    ensures { result ≡ is_second words.now }
 {
-    word_at(s, 0) == 0
+    word_at(words, 0) == 0
 }
 
-// Where the budgets stand: the word of the first, counted from 0, and how many there are.
-#[derive(Drop)]
+/// Where the budgets stand: the word of the first, counted from 0, and how many there are.
+#[derive(Clone, Copy, Debug, PartialEq, Eq)]
 pub struct Budgets {
     pub first: usize,
     pub count: usize,
 }
 
 // Word 3 of a row, 0 where it ends before.
-fn third_word(s: &[u16]) -> usize
-    ensures { (result ≡ word s.now 3) × (result < word_limit) }
+fn third_word(words: &[u16]) -> usize
+    ensures { (result ≡ word words.now 3) × (result < word_limit) }
 {
-    if s.len() < 4 {
+    if words.len() < 4 {
         return 0;
     }
-    word_at(s, 3)
+    word_at(words, 3)
 }
 
-// One budget in the third word, or so many behind the fourth.
-pub fn read_budgets(s: &[u16]) -> Budgets
-    requires { least_words ≤ length s.now }
-    ensures first_value { (result.first ≡ budgets_at s.now) × (result.count ≡ budget_count s.now) }
+/// One budget in the third word, or so many behind the fourth.
+pub fn read_budgets(words: &[u16]) -> Budgets
+    requires { least_words ≤ length words.now }
+    ensures first_value { (result.first ≡ budgets_at words.now) × (result.count ≡ budget_count words.now) }
     ensures first_bound { (result.first ≤ 4) × (result.count < word_limit) }
 {
-    if is_second(s) {
-        let n = third_word(s);
-        return Budgets { first: 4, count: n };
+    if is_second(words) {
+        let count = third_word(words);
+        return Budgets { first: 4, count };
     }
     Budgets { first: 2, count: 1 }
 }
 
-// The budgets, a part of the sheet.
-pub fn budgets_part(s: &[u16]) -> &[u16]
-    requires { (least_words ≤ length s.now) × (budgets_at s.now + budget_count s.now ≤ length s.now) }
-    ensures { result.now ≡ budgets_in s.now }
+/// The budgets, a part of the sheet.
+pub fn budgets_part(words: &[u16]) -> &[u16]
+    requires { (least_words ≤ length words.now) × (budgets_at words.now + budget_count words.now ≤ length words.now) }
+    ensures { result.now ≡ budgets_in words.now }
 {
-    let at = read_budgets(s);
+    let at = read_budgets(words);
     let first = at.first;
     let count = at.count;
     let end = first + count;
-    &s[first..end]
+    &words[first..end]
 }
 
-// The largest budget: the last of those that stand in the row, 0 where none does.
-pub fn largest(s: &[u16]) -> usize
-    requires { least_words ≤ length s.now }
-    ensures { (result ≡ largest_in s.now) × (result < word_limit) }
+/// The largest budget: the last of those that stand in the row, 0 where none does.
+pub fn largest(words: &[u16]) -> usize
+    requires { least_words ≤ length words.now }
+    ensures { (result ≡ largest_in words.now) × (result < word_limit) }
 {
-    let at = read_budgets(s);
-    if s.len() <= at.first {
+    let at = read_budgets(words);
+    if words.len() <= at.first {
         return 0;
     }
     if at.count == 0 {
         return 0;
     }
-    if at.first + at.count <= s.len() {
-        return word_at(s, at.first + at.count - 1);
+    if at.first + at.count <= words.len() {
+        return word_at(words, at.first + at.count - 1);
     }
-    word_at(s, s.len() - 1)
+    word_at(words, words.len() - 1)
 }
 
-// The budget with the number k.
-pub fn budget(s: &[u16], k: usize) -> usize
-    requires least_words_in_bounds { (least_words ≤ length s.now) × (budgets_at s.now + budget_count s.now ≤ length s.now) }
-    requires le_k { (1 ≤ k) × (k ≤ budget_count s.now) }
-    ensures { (result ≡ nth (budgets_in s.now) k) × (result < word_limit) }
+/// The budget with the number `index`, counted from 1.
+pub fn budget(words: &[u16], index: usize) -> usize
+    requires least_words_in_bounds { (least_words ≤ length words.now) × (budgets_at words.now + budget_count words.now ≤ length words.now) }
+    requires le_index { (1 ≤ index) × (index ≤ budget_count words.now) }
+    ensures { (result ≡ nth (budgets_in words.now) index) × (result < word_limit) }
 {
-    let at = read_budgets(s);
-    word_at(s, at.first + (k - 1))
+    let at = read_budgets(words);
+    word_at(words, at.first + (index - 1))
 }
 
 // GRAPH SHEETS
 
-// What a graph sheet's header says of the records: N, E, and the word at which they begin.
-#[derive(Drop)]
+/// What a graph sheet's header says of the records: how many blocks and edges, and the word at which they begin.
+#[derive(Clone, Copy, Debug, PartialEq, Eq)]
 pub struct Header {
     pub blocks: usize,
     pub edges: usize,
     pub records: usize,
 }
 
-// "Three words: N blocks, E edges, budget B in cycles", or "0, N, E, the number of budgets, the budgets"; the records begin behind them.
-pub fn read_header(s: &[u16]) -> Header
-    requires { least_words ≤ length s.now }
-    ensures edges_value { header_of result.records result.blocks result.edges ≡ header s.now }
+/// Three words: blocks, edges, the budget in cycles; or 0, blocks, edges, the number of budgets, and the budgets. The records begin behind them.
+pub fn read_header(words: &[u16]) -> Header
+    requires { least_words ≤ length words.now }
+    ensures edges_value { header_of result.records result.blocks result.edges ≡ header words.now }
     ensures blocks_lt_word_limit { (result.blocks < word_limit) × (result.edges < word_limit) × (result.records ≤ 4 + word_limit) }
 {
-    if is_second(s) {
-        let n = word_at(s, 1);
-        let m = word_at(s, 2);
-        let k = third_word(s);
+    if is_second(words) {
+        let blocks = word_at(words, 1);
+        let edges = word_at(words, 2);
+        let budgets = third_word(words);
         return Header {
-            blocks: n,
-            edges: m,
-            records: 4 + k,
+            blocks,
+            edges,
+            records: 4 + budgets,
         };
     }
-    let n = word_at(s, 0);
-    let m = word_at(s, 1);
+    let blocks = word_at(words, 0);
+    let edges = word_at(words, 1);
     Header {
-        blocks: n,
-        edges: m,
+        blocks,
+        edges,
         records: 3,
     }
 }
 
 // BOUNDED SHEETS
 
-// What a bounded sheet's header says of the records: C, F, the largest budget, and the word at which they begin.
-#[derive(Drop)]
+/// What a bounded sheet's header says of the records: how many copies and edges, the largest budget, and the word at which they begin.
+#[derive(Clone, Copy, Debug, PartialEq, Eq)]
 pub struct Heading {
     pub copies: usize,
     pub edges: usize,
@@ -138,54 +138,54 @@ pub struct Heading {
     pub records: usize,
 }
 
-// "Three words: C copies, F edges, B", or "0, C, F, that number, the budgets, one entry word each"; the records begin behind them.
-pub fn read_heading(s: &[u16]) -> Heading
-    requires { least_words ≤ length s.now }
-    ensures largest_value { heading_of result.records result.copies result.edges result.largest ≡ heading s.now }
+/// Three words: copies, edges, the budget; or 0, copies, edges, the number of budgets, the budgets, an entry word each. The records begin behind them.
+pub fn read_heading(words: &[u16]) -> Heading
+    requires { least_words ≤ length words.now }
+    ensures largest_value { heading_of result.records result.copies result.edges result.largest ≡ heading words.now }
     ensures copies_lt_word_limit { (result.copies < word_limit) × (result.edges < word_limit) × (result.largest < word_limit) × (result.records ≤ 4 + 2 * word_limit) }
 {
-    let b = largest(s);
-    if is_second(s) {
-        let c = word_at(s, 1);
-        let f = word_at(s, 2);
-        let k = third_word(s);
+    let largest = largest(words);
+    if is_second(words) {
+        let copies = word_at(words, 1);
+        let edges = word_at(words, 2);
+        let budgets = third_word(words);
         return Heading {
-            copies: c,
-            edges: f,
-            largest: b,
-            records: 4 + 2 * k,
+            copies,
+            edges,
+            largest,
+            records: 4 + 2 * budgets,
         };
     }
-    let c = word_at(s, 0);
-    let f = word_at(s, 1);
+    let copies = word_at(words, 0);
+    let edges = word_at(words, 1);
     Heading {
-        copies: c,
-        edges: f,
-        largest: b,
+        copies,
+        edges,
+        largest,
         records: 3,
     }
 }
 
-// The entry of the budget with the number k; a sheet of the first version has one, which is 1.
-pub fn entry(s: &[u16], k: usize) -> usize
-    requires least_words_in_bounds { (least_words ≤ length s.now) × ((heading s.now).records ≤ length s.now) }
-    requires le_k { (1 ≤ k) × (k ≤ budget_count s.now) }
-    ensures { (result ≡ nth (entries_in s.now) k) × (result < word_limit) }
+/// The entry of the budget with the number `index`; a sheet of the first version has one, which is 1.
+pub fn entry(words: &[u16], index: usize) -> usize
+    requires least_words_in_bounds { (least_words ≤ length words.now) × ((heading words.now).records ≤ length words.now) }
+    requires le_index { (1 ≤ index) × (index ≤ budget_count words.now) }
+    ensures { (result ≡ nth (entries_in words.now) index) × (result < word_limit) }
 {
-    if is_second(s) {
-        let n = third_word(s);
-        return word_at(s, 4 + n + (k - 1));
+    if is_second(words) {
+        let count = third_word(words);
+        return word_at(words, 4 + count + (index - 1));
     }
     1
 }
 
-// The entries of a sheet of the second version, a part of it.
-pub fn entries_part(s: &[u16]) -> &[u16]
-    requires { (least_words ≤ length s.now) × (is_second s.now ≡ true) × ((heading s.now).records ≤ length s.now) }
-    ensures { result.now ≡ entries_in s.now }
+/// The entries of a sheet of the second version, a part of it.
+pub fn entries_part(words: &[u16]) -> &[u16]
+    requires { (least_words ≤ length words.now) × (is_second words.now ≡ true) × ((heading words.now).records ≤ length words.now) }
+    ensures { result.now ≡ entries_in words.now }
 {
-    let n = third_word(s);
-    let first = 4 + n;
-    let end = first + n;
-    &s[first..end]
+    let count = third_word(words);
+    let first = 4 + count;
+    let end = first + count;
+    &words[first..end]
 }

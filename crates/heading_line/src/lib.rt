@@ -1,21 +1,31 @@
-// The heading of a listing, written into a lent row of bytes.
-// Rests on digits; the promises say the whole row, by digits Wrote and specs Heading.
+//! The heading of a listing.
 #![tactic(auto)]
 
-ghost use Rattle.std.specs.Prelude.{◌≤◌, length};
-ghost use Rattle.digits.specs.Wrote.{Wrote};
+ghost use Rattle.std.specs.Prelude.{Some};
 ghost use Rattle.heading_line.specs.Heading.{heading_text};
 
-use digits::{NEWLINE, put_byte, put_bytes, put_named, put_numbers};
+use printed::Spaced;
+use std::fmt;
 
-// Writes the heading: C, F and the budgets.
-pub fn write_heading(text: &mut [u8], c: usize, f: usize, bs: &[u16]) -> usize
-    requires { length (heading_text c f bs.now) ≤ length text.old }
-    ensures { Wrote text.old 0 (heading_text c f bs.now) text.new result }
-{
-    let x = put_named(text, 0, b"copies", c);
-    let y = put_named(text, x, b" edges", f);
-    let z = put_bytes(text, y, b" budget");
-    let p = put_numbers(bs, text, z);
-    put_byte(text, p, NEWLINE)
+/// The heading of a listing: how many copies and edges the sheet has, and its budgets in cycles.
+#[derive(Clone, Copy, Debug)]
+pub struct HeadingLine<'a> {
+    pub copies: usize,
+    pub edges: usize,
+    pub budgets: &'a [u16],
+}
+
+impl fmt::Display for HeadingLine<'_> {
+    ghost output = { λ line. Some (heading_text line.copies line.edges line.budgets.now) };
+
+    #[tactic(auto, using(printed::proofs::Decimals::decimal_is))]
+    fn fmt<W: fmt::Write>(&self, f: &mut fmt::Formatter<W>) -> fmt::Result {
+        let HeadingLine {
+            copies,
+            edges,
+            budgets,
+        } = *self;
+        let budgets = Spaced(budgets);
+        writeln!(f, "copies {copies} edges {edges} budget{budgets}")
+    }
 }

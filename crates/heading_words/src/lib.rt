@@ -1,112 +1,62 @@
 // THE HEADER of a bounded sheet, in either version, put at the front of a row: the counts, the budgets and their entries. Below the public calls.
-// Rests on number, put_words; the definition is formats BoundedSheet `heading_words`.
+// Rests on put_words, chain_records; the definition is formats BoundedSheet `heading_words`.
 #![tactic(auto)]
 
-ghost use Rattle.std.specs.Prelude.{◌≡◌, ◌∷◌, ◌++◌, ◌+◌, ◌≤◌, ◌<◌, length};
-ghost use Rattle.base.specs.Lists.{last_of};
-ghost use Rattle.theory.specs.Completions.{low_of};
+ghost use Rattle.std.specs.Prelude.{◌≡◌, ◌∷◌, ◌++◌, ◌+◌, ◌<◌, ◌≤◌, length};
 ghost use Rattle.formats.specs.Limits.{most_budgets, word_limit};
-ghost use Rattle.formats.specs.Versions.{Claimed};
 ghost use Rattle.formats.specs.BoundedSheet.{heading_words};
-ghost use Rattle.tables.specs.Tables.{Numbers};
-ghost use Rattle.graph_row.specs.GraphRow.{blocks_in, graph_in, Flat};
 ghost use Rattle.put_words.specs.Put.{put_words};
-ghost use Rattle.chain_records.specs.Marked.{Marked};
-ghost use Rattle.heading_words.specs.Entries.{heading_size, entries_of};
+ghost use Rattle.heading_words.specs.Entries.{heading_size, entries_in};
 
-use number::number_of;
+use chain_records::Found;
 use put_words::{put_one, put_part, put_three, put_two};
-use words::word_at;
 
-// The words of a header with n budgets.
-pub fn heading_size(second: bool, n: usize) -> usize
-    requires { n ≤ most_budgets }
-    ensures { result ≡ heading_size second n }
+/// The words of a header with so many budgets. The version is a truth value, as in the definitions of formats, which each clause cites: of an
+/// enum of two they would need it back.
+pub fn heading_size(second: bool, budgets: usize) -> usize
+    requires { budgets ≤ most_budgets }
+    ensures { result ≡ heading_size second budgets }
 {
     if second {
-        return 4 + 2 * n;
+        return 4 + 2 * budgets;
     }
     3
 }
 
 // Puts the entry of each budget, the number of its start copy or 0, from the word `at` on.
-fn put_entries(
-    row: &[u16],
-    marks: &[u8],
-    numbers: &[u16],
-    out: &mut [u16],
-    at: usize,
-    bs: &[u16],
-    b: usize,
-)
-    requires flat { Flat row.now }
-    requires marked { Marked (graph_in row.now) (blocks_in row.now) b marks.now }
-    requires numbers { Numbers (low_of (graph_in row.now)) (blocks_in row.now) b marks.now numbers.now }
-    requires claimed { Claimed bs.now × (b ≡ last_of bs.now) }
-    requires bs_in_bounds { at + length bs.now ≤ length out.old }
-    ensures { out.new ≡ put_words out.old at
-        (entries_of (graph_in row.now) (blocks_in row.now) b marks.now bs.now) }
+fn put_entries(found: &Found, output: &mut [u16], at: usize)
+    requires { at + length found.now.budgets.now ≤ length output.old }
+    ensures { output.new ≡ put_words output.old at (entries_in found.now) }
 {
-    let mut i = 0;
-    while i < bs.len() {
-        let c = word_at(bs, i);
-        let x = number_of(marks, numbers, b, 1, c);
-        put_one(out, at + i, x);
-        i += 1;
+    for (i, &budget) in found.budgets.iter().enumerate() {
+        put_one(output, at + i, found.number(1, budget as usize));
     }
 }
 
-// "0, C, F, that number, the budgets, one entry word each"
-fn write_second(
-    row: &[u16],
-    marks: &[u8],
-    numbers: &[u16],
-    out: &mut [u16],
-    bs: &[u16],
-    b: usize,
-    copies: usize,
-    edges: usize,
-)
-    requires flat { Flat row.now }
-    requires marked { Marked (graph_in row.now) (blocks_in row.now) b marks.now }
-    requires numbers { Numbers (low_of (graph_in row.now)) (blocks_in row.now) b marks.now numbers.now }
-    requires claimed { Claimed bs.now × (b ≡ last_of bs.now) }
-    requires copies_lt_word_limit { (copies < word_limit) × (edges < word_limit) }
-    requires bs_in_bounds { 4 + length bs.now + length bs.now ≤ length out.old }
-    ensures { out.new ≡ put_words out.old 0 (0 ∷ copies ∷ edges ∷ length bs.now ∷ (bs.now
-        ++ entries_of (graph_in row.now) (blocks_in row.now) b marks.now bs.now)) }
+// The header of the second version: 0, the copies, the edges, the number of the budgets, the budgets, one entry word each.
+fn write_second(found: &Found, output: &mut [u16])
+    requires few { found.now.copies < word_limit }
+    requires room { 4 + length found.now.budgets.now + length found.now.budgets.now ≤ length output.old }
+    ensures { output.new ≡ put_words output.old 0 (0 ∷ found.now.copies ∷ found.now.edges ∷ length found.now.budgets.now
+        ∷ (found.now.budgets.now ++ entries_in found.now)) }
 {
-    let n = bs.len();
-    put_two(out, 0, 0, copies);
-    put_two(out, 2, edges, n);
-    put_part(out, 4, bs);
-    put_entries(row, marks, numbers, out, 4 + n, bs, b);
+    let n = found.budgets.len();
+    put_two(output, 0, 0, found.copies);
+    put_two(output, 2, found.edges, n);
+    put_part(output, 4, found.budgets);
+    put_entries(found, output, 4 + n);
 }
 
-// The header of a bounded sheet with so many copies and edges.
-pub fn write_heading(
-    row: &[u16],
-    marks: &[u8],
-    numbers: &[u16],
-    out: &mut [u16],
-    bs: &[u16],
-    second: bool,
-    b: usize,
-    copies: usize,
-    edges: usize,
-)
-    requires flat { Flat row.now }
-    requires marked { Marked (graph_in row.now) (blocks_in row.now) b marks.now }
-    requires numbers { Numbers (low_of (graph_in row.now)) (blocks_in row.now) b marks.now numbers.now }
-    requires claimed { Claimed bs.now × (b ≡ last_of bs.now) }
-    requires copies_lt_word_limit { (copies < word_limit) × (edges < word_limit) }
-    requires bs_in_bounds { heading_size second (length bs.now) ≤ length out.old }
-    ensures { out.new ≡ put_words out.old 0 (heading_words second bs.now
-        (entries_of (graph_in row.now) (blocks_in row.now) b marks.now bs.now) copies edges) }
+/// Puts the header of a bounded sheet with the copies that were found at the front of a row.
+pub fn write_heading(found: &Found, output: &mut [u16], second: bool)
+    requires few { found.now.copies < word_limit }
+    requires room { heading_size second (length found.now.budgets.now) ≤ length output.old }
+    ensures { output.new ≡ put_words output.old 0
+        (heading_words second found.now.budgets.now (entries_in found.now) found.now.copies found.now.edges) }
 {
     if second {
-        write_second(row, marks, numbers, out, bs, b, copies, edges);
+        write_second(found, output);
         return;
     }
-    put_three(out, 0, copies, edges, b);
+    put_three(output, 0, found.copies, found.edges, found.layout.budget);
 }

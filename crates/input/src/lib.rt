@@ -3,7 +3,7 @@
 #![tactic(auto)]
 
 ghost use Rattle.std.specs.Prelude.{◌≡◌, ◌≤◌, length, IfOk, IfErr, OnOk, OnErr, IfSome};
-ghost use Rattle.std.specs.Io.KnownBytes.{Appends, ReadConsumes};
+ghost use Rattle.std.specs.Io.KnownBytes.{Appends, IsAtEnd, ReadConsumes};
 ghost use Rattle.std.specs.Io.{ReadsAtMost};
 ghost use Rattle.std.specs.Process.{exit_status};
 ghost use Rattle.kept.specs.Held.{Held, held_as};
@@ -16,13 +16,13 @@ use std::io::{Read, Write};
 use std::process::ExitCode;
 use std::{fmt, io};
 
-// How many bytes are asked for at once.
+/// How many bytes are asked for at once.
 pub const PIECE: usize = 65536;
 
 // The room of what is said of a failure: a stream's name, and a reason of 80 bytes at most, with its number.
 const SAID_SIZE: usize = 128;
 
-// Which of the streams failed, and why.
+/// Which of the streams failed, and why.
 #[derive(Debug, Drop)]
 pub enum Failure {
     Input(io::Error),
@@ -40,7 +40,7 @@ impl fmt::Display for Failure {
     }
 }
 
-// By what `read` answered.
+// By what `read` answered. No `map_err`: only this equation turns back an end that is taken for a failure.
 fn answered(got: io::Result<usize>) -> Result<usize, Failure>
     ensures { result ≡ piece_of got }
 {
@@ -50,7 +50,7 @@ fn answered(got: io::Result<usize>) -> Result<usize, Failure>
     }
 }
 
-// By what `write_all` answered.
+// By what `write_all` answered; an equation, as for a read.
 fn written(got: io::Result<()>) -> Result<(), Failure>
     ensures { result ≡ wrote_of got }
 {
@@ -60,7 +60,7 @@ fn written(got: io::Result<()>) -> Result<(), Failure>
     }
 }
 
-// Reads the next bytes into a row: how many, none only at the end or where the row is empty.
+/// Reads the next bytes into a row: how many, none only at the end or where the row is empty.
 pub fn read_piece<R: Read>(reader: &mut R, space: &mut [u8]) -> Result<usize, Failure>
     ensures prefix_len { ReadsAtMost result space.new }
     ensures bytes { ReadConsumes (R.remaining reader.old) (R.remaining reader.new) result space.new }
@@ -70,9 +70,10 @@ pub fn read_piece<R: Read>(reader: &mut R, space: &mut [u8]) -> Result<usize, Fa
     answered(got)
 }
 
-// Reads to the end, piece by piece, and keeps what the row has room for.
+/// Reads to the end, piece by piece, and keeps what the row has room for.
 pub fn read_to_end<R: Read>(reader: &mut R, row: &mut [u8]) -> Result<Kept, Failure>
     ensures count { IfOk result (λ s. s.count ≤ length row.new) }
+    ensures end { OnOk result (IsAtEnd (R.remaining reader.new)) }
     ensures kept { IfOk result (λ s. IfSome (R.remaining reader.old) (λ xs. Held xs row.new (held_as s))) }
     ensures err { OnErr result (Front (R.remaining reader.old) (R.remaining reader.new) row.new) }
     ensures failure { IfErr result OfInput }
@@ -89,14 +90,14 @@ pub fn read_to_end<R: Read>(reader: &mut R, row: &mut [u8]) -> Result<Kept, Fail
     Err(no_end())
 }
 
-// An input is given up after so many pieces that none has as many.
+/// An input is given up after so many pieces that none has as many.
 pub fn no_end() -> Failure
     ensures { OfInput result }
 {
     Failure::Input(io::Error::other("no end"))
 }
 
-// Writes all of a text.
+/// Writes all of a text.
 pub fn print<W: Write>(writer: &mut W, text: &[u8]) -> Result<(), Failure>
     ensures ok { OnOk result (Appends (W.contents writer.old) (W.contents writer.new) text.now) }
     ensures failure { IfErr result OfOutput }
@@ -105,7 +106,7 @@ pub fn print<W: Write>(writer: &mut W, text: &[u8]) -> Result<(), Failure>
     written(got)
 }
 
-// The same to standard error.
+/// The same to standard error.
 pub fn print_error<W: Write>(writer: &mut W, text: &[u8]) -> Result<(), Failure>
     ensures ok { OnOk result (Appends (W.contents writer.old) (W.contents writer.new) text.now) }
     ensures failure { IfErr result OfErrors }
@@ -122,7 +123,7 @@ fn say(rt: &impl Eprint, failure: Failure) -> io::Result<()> {
     }
 }
 
-// How a program ends: a failure is said on standard error, with the reason.
+/// How a program ends: a failure is said on standard error, with the reason.
 pub fn ending(rt: &impl Eprint, done: Result<(), Failure>) -> ExitCode
     ensures ok { OnOk done (exit_status result ≡ 0) }
     ensures err { OnErr done (exit_status result ≡ 1) }

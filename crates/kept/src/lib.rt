@@ -5,8 +5,9 @@
 ghost use Rattle.std.specs.Prelude.{◌≡◌, List, [], ◌∷◌, ◌++◌, ℕ, ◌≤◌, length, take};
 ghost use Rattle.kept.specs.Held.{Held, none, held_as};
 
-// How many of the row's bytes are kept, and whether an odd number came.
-#[derive(Drop)]
+/// How many of the row's bytes are kept, and whether an odd number came.
+// A count beside a row that the program owns, and no Vec: what is kept of an input of any length takes fixed memory, and cannot fail.
+#[derive(Clone, Copy, Debug, PartialEq, Eq)]
 pub struct Kept {
     pub count: usize,
     pub odd: bool,

@@ -2,7 +2,7 @@
 -- Rests on base Lists, theory Completions.
 use mathlib.Core.Path.{◌≡◌, sym, ap, ◌∙◌}
 use mathlib.Core.Bool.{Bool, true, false}
-use mathlib.Core.Option.{Option, none}
+use mathlib.Core.Option.{Option, some, none}
 use Prim.Native.Nat.{ℕ, zero, suc, ◌+◌, ◌-◌, ◌≤◌, ◌<◌}
 use native.Mathlib.Omega.{arith}
 use native.Mathlib.Numerals.{add-one}
@@ -35,15 +35,13 @@ module _ (f : ℕ → Bool) where
   begin r = rw add-one
 
   module _ (r i : ℕ) (h : Left r i) where
-    pub out : i ≡ 0 → option_of 0 ≡ largest f r
-    unfolding Left under option_of
+    pub out : i ≡ 0 → none ≡ largest f r
+    unfolding Left under
     out z = sym (h ∙ ap under z)
 
-    pub hit : 0 < i → f (i - 1) ≡ true → option_of i ≡ largest f r
-    unfolding Left
-    hit l e =
-        let p : i ≡ suc (i - 1) = omega arith in
-        sym (h ∙ ap under p ∙ under-hit (i - 1) e ∙ ap option_of (sym p))
+    pub hit : 0 < i → f (i - 1) ≡ true → some (i - 1) ≡ largest f r
+    unfolding Left under
+    hit l e = let p : i ≡ suc (i - 1) = omega arith in sym (h ∙ ap under p ∙ largest-self f (i - 1) e)
 
     pub miss : 0 < i → f (i - 1) ≡ false → Left r (i - 1)
     unfolding Left
@@ -58,13 +56,13 @@ module _ (f : ℕ → Bool) where
   ahead b r = let p : suc b - (r + 1) ≡ b - r = omega arith in rw (p, add-one)
 
   module _ (b r c : ℕ) (h : Ahead b r c) where
-    pub nothing : b < c → option_of 0 ≡ smallest f (suc r) (b - r)
-    unfolding Ahead smallest option_of
+    pub nothing : b < c → none ≡ smallest f (suc r) (b - r)
+    unfolding Ahead smallest
     nothing l = let p : suc b - c ≡ 0 = omega arith in sym (h ∙ rw p)
 
-    pub found : c ≤ b → f c ≡ true → option_of (c + 1) ≡ smallest f (suc r) (b - r)
-    unfolding Ahead smallest option_of
-    found l e = let p : suc b - c ≡ suc (b - c) = omega arith in sym (h ∙ rw (p, smallest, e, add-one))
+    pub found : c ≤ b → f c ≡ true → some c ≡ smallest f (suc r) (b - r)
+    unfolding Ahead smallest
+    found l e = let p : suc b - c ≡ suc (b - c) = omega arith in sym (h ∙ rw (p, smallest, e))
 
     pub onward : c ≤ b → f c ≡ false → Ahead b r (c + 1)
     unfolding Ahead smallest

@@ -4,112 +4,90 @@
 
 ghost use Rattle.std.specs.Prelude.{◌≡◌, ◌≤◌, length};
 ghost use Rattle.base.specs.Cells.{cell_of, cell_count};
-ghost use Rattle.base.specs.Lists.{option_of};
-ghost use Rattle.formats.specs.Limits.{most_blocks, most_budget};
+ghost use Rattle.base.specs.Options.{option_in};
+ghost use Rattle.formats.specs.Limits.{most_budget};
 ghost use Rattle.calls.specs.Area.{area_size, HasCell};
-ghost use Rattle.cells.specs.Cells.{Within};
 ghost use Rattle.tables.specs.Tables.{low_in, next_in, Lows};
 ghost use Rattle.look.specs.Rows.{latest, RowFilled};
 
-use cells::is_set;
+use cells::{Layout, is_set};
 use tables::put_entry;
 
 // BY A SCAN
 
-// What a look-up gives: one more than the largest cost at or below the number, and one more than the smallest above it, 0 for none.
-#[derive(Drop)]
-pub struct Lookup {
-    pub low: usize,
-    pub next: usize,
+/// What a look-up gives: a block's largest cost at or below a number of cycles, and its smallest above it.
+#[derive(Clone, Copy, Debug, PartialEq, Eq)]
+pub struct LookUp {
+    pub low: Option<usize>,
+    pub next: Option<usize>,
 }
 
-// One more than the largest cost of v at or below r, from r down.
-fn find_low(area: &[u8], b: usize, v: usize, r: usize) -> usize
-    requires within { Within b v r }
-    requires has_cell { HasCell area.now (cell_of b v b) }
-    ensures { option_of result ≡ low_in b area.now v r }
+/// The largest cost at or below the cycles, from there down.
+fn find_low(area: &[u8], layout: Layout, block: usize, cycles: usize) -> Option<usize>
+    requires inside { (1 ≤ block) × (block ≤ layout.blocks) × (cycles ≤ layout.budget) }
+    requires has_cell { HasCell area.now (cell_of layout.budget block layout.budget) }
+    ensures { option_in result ≡ low_in layout.budget area.now block cycles }
 {
-    let mut i = r + 1;
-    while 0 < i {
-        if is_set(area, b, v, i - 1) {
-            return i;
+    for cost in (0..cycles + 1).rev() {
+        if is_set(area, layout, block, cost) {
+            return Some(cost);
         }
-        i -= 1;
     }
-    0
+    None
 }
 
-// One more than the smallest cost of v above r, from there up to b.
-fn find_next(area: &[u8], b: usize, v: usize, r: usize) -> usize
-    requires within { Within b v r }
-    requires has_cell { HasCell area.now (cell_of b v b) }
-    ensures { option_of result ≡ next_in b area.now v r }
+/// The smallest cost above the cycles, from there up to the budget.
+fn find_next(area: &[u8], layout: Layout, block: usize, cycles: usize) -> Option<usize>
+    requires inside { (1 ≤ block) × (block ≤ layout.blocks) × (cycles ≤ layout.budget) }
+    requires has_cell { HasCell area.now (cell_of layout.budget block layout.budget) }
+    ensures { option_in result ≡ next_in layout.budget area.now block cycles }
 {
-    let mut c = r + 1;
-    while c <= b {
-        if is_set(area, b, v, c) {
-            return c + 1;
+    for cost in cycles + 1..layout.budget + 1 {
+        if is_set(area, layout, block, cost) {
+            return Some(cost);
         }
-        c += 1;
     }
-    0
+    None
 }
 
-// The look-up of block v and r; the area has a cell for each cost of v up to b.
-pub fn look_up(area: &[u8], b: usize, v: usize, r: usize) -> Lookup
-    requires within { Within b v r }
-    requires has_cell { HasCell area.now (cell_of b v b) }
-    ensures low_value { option_of result.low ≡ low_in b area.now v r }
-    ensures next_value { option_of result.next ≡ next_in b area.now v r }
+/// The look-up of a block and a number of cycles; the area has a cell for each cost of the block up to the budget.
+pub fn look_up(area: &[u8], layout: Layout, block: usize, cycles: usize) -> LookUp
+    requires inside { (1 ≤ block) × (block ≤ layout.blocks) × (cycles ≤ layout.budget) }
+    requires has_cell { HasCell area.now (cell_of layout.budget block layout.budget) }
+    ensures low_value { option_in result.low ≡ low_in layout.budget area.now block cycles }
+    ensures next_value { option_in result.next ≡ next_in layout.budget area.now block cycles }
 {
-    let low = find_low(area, b, v, r);
-    let next = find_next(area, b, v, r);
-    Lookup {
-        low: low,
-        next: next,
+    LookUp {
+        low: find_low(area, layout, block, cycles),
+        next: find_next(area, layout, block, cycles),
     }
 }
 
 // AS A ROW: a look-up is then one read (tables `entry`)
 
-// One more than the last cost that is set, after the cost r: r is the last where it is set.
-fn later(last: usize, r: usize, hit: bool) -> usize
-    requires { r ≤ most_budget }
-    ensures { result ≡ latest last r hit }
+/// Fills the row of one block, by rising numbers of cycles: an entry is one more than the last cost that is set, 0 before the first.
+fn fill_row(area: &[u8], lows: &mut [u16], layout: Layout, block: usize)
+    requires inside { (1 ≤ block) × (block ≤ layout.blocks) }
+    requires room { (area_size block layout.budget ≤ length area.now) × (cell_count block layout.budget ≤ length lows.old) }
+    ensures { RowFilled area.now layout.budget block lows.old lows.new }
 {
-    if hit {
-        return r + 1;
-    }
-    last
-}
-
-// Fills the row of one block, by rising numbers of cycles.
-fn fill_row(area: &[u8], lows: &mut [u16], b: usize, v: usize)
-    requires b_le_most_budget { (b ≤ most_budget) × (1 ≤ v) × (v ≤ most_blocks) }
-    requires b_in_bounds { (area_size v b ≤ length area.now) × (cell_count v b ≤ length lows.old) }
-    ensures { RowFilled area.now b v lows.old lows.new }
-{
-    let mut last = 0;
-    let mut r = 0;
-    while r <= b {
-        let hit = is_set(area, b, v, r);
-        let x = later(last, r, hit);
-        put_entry(lows, b, v, r, x);
-        last = x;
-        r += 1;
+    let mut last = 0u16;
+    for cycles in 0..layout.budget + 1 {
+        if is_set(area, layout, block, cycles) {
+            last = cycles as u16 + 1;
+        }
+        put_entry(lows, layout, block, cycles, last);
     }
 }
 
-// Fills the rows of the blocks 1 to n.
-pub fn fill_lows(area: &[u8], lows: &mut [u16], n: usize, b: usize)
-    requires b_le_most_budget { (b ≤ most_budget) × (n ≤ most_blocks) }
-    requires b_in_bounds { (area_size n b ≤ length area.now) × (cell_count n b ≤ length lows.old) }
+/// Fills the rows of all blocks.
+pub fn fill_lows(area: &[u8], lows: &mut [u16], layout: Layout)
+    requires room { (area_size layout.blocks layout.budget ≤ length area.now)
+        × (cell_count layout.blocks layout.budget ≤ length lows.old) }
     ensures lows_len_unchanged { length lows.new ≡ length lows.old }
-    ensures lows { Lows (low_in b area.now) n b lows.new }
+    ensures lows { Lows (low_in layout.budget area.now) layout.blocks layout.budget lows.new }
 {
-    let mut v = 1;
-    while v <= n {
-        fill_row(area, lows, b, v);
-        v += 1;
+    for block in 1..layout.blocks + 1 {
+        fill_row(area, lows, layout, block);
     }
 }

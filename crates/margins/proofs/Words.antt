@@ -3,10 +3,12 @@
 use mathlib.Core.Path.{◌≡◌, refl, sym, ap, ap₂, ◌∙◌}
 use mathlib.Core.List.{List, ◌∷◌}
 use mathlib.Core.Option.{Option, some, none}
-use Prim.Native.Nat.{ℕ, zero, suc, ◌-◌, ◌≤◌, ◌<◌}
+use Prim.Native.Nat.{ℕ, suc, ◌-◌, ◌≤◌, ◌<◌}
 use native.Mathlib.Omega.{arith}
 use lib.ListN.{length}
-use Rattle.base.specs.Lists.{option_of}
+use Rattle.std.specs.Prelude.{Some, None, Option as Choice}
+use Rattle.std.specs.Option.{IfSome}
+use Rattle.base.specs.Options.{option_in}
 use Rattle.theory.proofs.Next.{smallest-some}
 use Rattle.formats.specs.Limits.{most_blocks, most_budget, most_cells}
 use Rattle.formats.specs.Words.{field}
@@ -21,24 +23,22 @@ use Rattle.digits.proofs.Room.{spaced-3}
 use Rattle.margins.specs.Margins.{less_low, margin_at, margin_word}
 
 -- ` none`, and a number
-pub word_none : (a n : ℕ) → n ≡ 0 → 32 ∷ none_text ≡ margin_word (less_low a (option_of n))
-unfolding margin_word margin_text option_of
-word_none a n z = rw z
+pub word_none : (a : ℕ) {o : Choice ℕ} → o ≡ None → 32 ∷ none_text ≡ margin_word (less_low a (option_in o))
+unfolding margin_word margin_text
+word_none a e = rw e
 
-pub word_some : (a n : ℕ) → (n ≡ 0 → ⊥) → spaced (n - 1 - a) ≡ margin_word (less_low a (option_of n))
-unfolding margin_word margin_text option_of spaced
-word_some a zero z = absurd (z refl)
-word_some a (suc n) z = let p : suc n - 1 ≡ n = omega arith in rw p
+pub word_some : (a : ℕ) {n : ℕ} {o : Choice ℕ} → o ≡ Some n → spaced (n - a) ≡ margin_word (less_low a (option_in o))
+unfolding margin_word margin_text spaced
+word_some a e = rw e
 
 module _ (b v a : ℕ) (area : List ℕ) where
   -- a next cost lies above the low, at or below b
   next-lies : (n : ℕ) → next_in b area v a ≡ some n → (a < n) × (n ≤ b)
   next-lies n e = let w = smallest-some (stands b area v) (b - a) (suc a) n e in omega (arith, w.above, w.below)
 
-  pub next-above : (n : ℕ) → option_of n ≡ next_in b area v a → 0 < n → a < n
-  unfolding option_of
-  next-above zero e l = absurd (omega arith)
-  next-above (suc n) e l = omega (arith, next-lies n (sym e))
+  pub next-above : (o : Choice ℕ) → option_in o ≡ next_in b area v a → IfSome o (λ (n : ℕ). a < n)
+  next-above None e = tt
+  next-above (Some n) e = (next-lies n (sym e)).0
 
   pub word-length : b ≤ most_budget → length (margin_word (less_low a (next_in b area v a))) ≤ 5
   unfolding margin_word margin_text spaced
@@ -49,9 +49,9 @@ module _ (b v a : ℕ) (area : List ℕ) where
       go (some n) e = rw e (omega (arith, spaced-3 (n - a) (omega (arith, l, next-lies n e))))
 
 -- what the look-up of the i-th copy's block and low makes its margin
-pub word_at : (t area : List ℕ) (b at i : ℕ) {v a : ℕ} (n : ℕ) → v ≡ field t at 3 i 0 → a ≡ field t at 3 i 1 → option_of n ≡ next_in b area v a
-    → margin_word (less_low a (option_of n)) ≡ margin_word (margin_at t area b at i)
-word_at t area b at i {a = a} n p q e =
+pub word_at : (t area : List ℕ) (b at i : ℕ) {v a : ℕ} (o : Option ℕ) → v ≡ field t at 3 i 0 → a ≡ field t at 3 i 1 → o ≡ next_in b area v a
+    → margin_word (less_low a o) ≡ margin_word (margin_at t area b at i)
+word_at t area b at i {a = a} o p q e =
     ap (λ (o : Option ℕ). margin_word (less_low a o)) e ∙ ap₂ (λ (x y : ℕ). margin_word (less_low y (next_in b area x y))) p q
 
 -- the costs of a block have cells in an area for the most blocks and the largest budget

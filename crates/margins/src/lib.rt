@@ -3,49 +3,54 @@
 #![tactic(auto)]
 
 ghost use Rattle.std.specs.Prelude.{◌+◌, ◌<◌, ◌≤◌, length};
-ghost use Rattle.base.specs.Lists.{option_of};
+ghost use Rattle.std.specs.Option.{IfSome};
+ghost use Rattle.base.specs.Options.{option_in};
 ghost use Rattle.formats.specs.Limits.{most_cells};
 ghost use Rattle.digits.specs.Wrote.{Wrote};
 ghost use Rattle.margins.specs.Margins.{less_low, margin_word, margin_words, Records};
 
+use cells::Layout;
 use digits::{put_bytes, put_number};
 use look::look_up;
-use words::field;
+use words::{MOST_BLOCKS, field};
 
-// Writes a margin behind a space: a next cost less a low, or `none`; next is one more than the cost, 0 for none.
-fn put_margin(text: &mut [u8], at: usize, low: usize, next: usize) -> usize
-    requires low_lt_next { 0 < next → low < next }
-    requires next_in_bounds { at + length (margin_word (less_low low (option_of next))) ≤ length text.old }
-    ensures { Wrote text.old at (margin_word (less_low low (option_of next))) text.new result }
+/// Writes a margin behind a space: a next cost less a low, or `none`. The place behind it.
+fn put_margin(text: &mut [u8], at: usize, low: usize, next: Option<usize>) -> usize
+    requires low_lt_next { IfSome next (λ next. low < next) }
+    requires next_in_bounds { at + length (margin_word (less_low low (option_in next))) ≤ length text.old }
+    ensures { Wrote text.old at (margin_word (less_low low (option_in next))) text.new result }
 {
-    if next == 0 {
-        return put_bytes(text, at, b" none");
+    match next {
+        None => put_bytes(text, at, b" none"),
+        Some(cost) => put_number(text, at, cost - low),
     }
-    put_number(text, at, next - 1 - low)
 }
 
-// Writes the margins of c copies, whose records stand from the word `at` on; the area has the costs up to b.
+/// Writes the margins of the copies, whose records stand from the word `at` on; the area has the costs up to the largest budget. The place behind
+/// them.
 pub fn put_margins(
-    t: &[u16],
+    sheet: &[u16],
     area: &[u8],
-    b: usize,
+    largest: usize,
     at: usize,
-    c: usize,
+    copies: usize,
     text: &mut [u8],
-    p: usize,
+    place: usize,
 ) -> usize
-    requires records { Records t.now b at c × (most_cells ≤ length area.now) }
-    requires c_in_bounds { p + length (margin_words t.now area.now b at c) ≤ length text.old }
-    ensures { Wrote text.old p (margin_words t.now area.now b at c) text.new result }
+    requires records { Records sheet.now largest at copies × (most_cells ≤ length area.now) }
+    requires copies_in_bounds { place + length (margin_words sheet.now area.now largest at copies) ≤ length text.old }
+    ensures { Wrote text.old place (margin_words sheet.now area.now largest at copies) text.new result }
 {
-    let mut q = p;
-    let mut i = 1;
-    while i <= c {
-        let v = field(t, at, 3, i, 0);
-        let low = field(t, at, 3, i, 1);
-        let x = look_up(area, b, v, low);
-        q = put_margin(text, q, low, x.next);
-        i += 1;
+    let layout = Layout {
+        blocks: MOST_BLOCKS,
+        budget: largest,
+    };
+    let mut end = place;
+    for copy in 1..copies + 1 {
+        let block = field(sheet, at, 3, copy, 0);
+        let low = field(sheet, at, 3, copy, 1);
+        let found = look_up(area, layout, block, low);
+        end = put_margin(text, end, low, found.next);
     }
-    q
+    end
 }

@@ -5,24 +5,24 @@
 ghost use Rattle.std.specs.Prelude.{◌≡◌, ◌+◌, ◌*◌, ◌≤◌, length};
 ghost use Rattle.masks.specs.Masks.{Put, Meets};
 
-// Puts t into the mask k.
-pub fn put(row: &mut [u64], k: usize, t: usize)
-    requires { (1 ≤ t) × (t ≤ 128) × (2 * k + 2 ≤ length row.old) }
-    ensures { Put k t row.old row.new }
+/// Puts a block into a mask.
+pub fn put(row: &mut [u64], mask: usize, block: usize)
+    requires { (1 ≤ block) × (block ≤ 128) × (2 * mask + 2 ≤ length row.old) }
+    ensures { Put mask block row.old row.new }
 {
-    if t <= 64 {
-        row[2 * k] = row[2 * k] | 1 << (t - 1);
-        return;
+    if block <= 64 {
+        row[2 * mask] |= 1 << (block - 1);
+    } else {
+        row[2 * mask + 1] |= 1 << (block - 65);
     }
-    row[2 * k + 1] = row[2 * k + 1] | 1 << (t - 65);
 }
 
-// Whether some block is in the mask i of one row and in the mask j of another.
-pub fn meet(a: &[u64], i: usize, b: &[u64], j: usize) -> bool
-    requires { (2 * i + 2 ≤ length a.now) × (2 * j + 2 ≤ length b.now) }
-    ensures { Meets a.now i b.now j result }
+/// Whether some block is in a mask of one row and in a mask of another.
+pub fn meet(row: &[u64], mask: usize, others: &[u64], other: usize) -> bool
+    requires { (2 * mask + 2 ≤ length row.now) × (2 * other + 2 ≤ length others.now) }
+    ensures { Meets row.now mask others.now other result }
 {
-    let x = a[2 * i] & b[2 * j];
-    let y = a[2 * i + 1] & b[2 * j + 1];
-    x | y != 0
+    let low = row[2 * mask] & others[2 * other];
+    let high = row[2 * mask + 1] & others[2 * other + 1];
+    low | high != 0
 }

@@ -1,2 +1,4 @@
--- what feeding and finishing promise: Feeds, Leaves
+-- what feeding and finishing promise: Feeds, Comes, Leaves
 pub mod Fed
+-- what a reading holds: mode_of, first_fault, Holds, Able, Turns
+pub mod Held

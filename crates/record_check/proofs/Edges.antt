@@ -8,6 +8,7 @@ use native.Mathlib.Omega.{arith}
 use native.Mathlib.Decide.{ℕ_discrete}
 use lib.Dec.{eqb}
 use borrow.Author.Tests.{eq-eqb, ne_eqb}
+use Rattle.std.specs.Prelude.{Option, Some, None}
 use Rattle.base.specs.Lists.{any, each, from, equal}
 use Rattle.base.proofs.Search.{upto, upto-one, upto-more, upto-end}
 use Rattle.formats.specs.Words.{follow}
@@ -15,7 +16,7 @@ use Rattle.formats.specs.BoundedSheet.{Heading, first_at, target_at, next_at, ch
 use Rattle.formats.specs.Rule11.{bad_edge_order}
 use Rattle.formats.proofs.Chains.{follow-end, follow-more}
 use Rattle.record_check.specs.Records.{is_stray, bad_edges}
-use Rattle.record_check.specs.Chains.{edges_up_to, in_turn, Consecutive}
+use Rattle.record_check.specs.Chains.{edges_up_to, in_turn, goes_on, Consecutive}
 
 -- the edge e is due, and no edge is due behind the last
 edges_more : (m e : ℕ) → e ≤ m → edges_up_to m e ≡ e ∷ edges_up_to m (e + 1)
@@ -65,14 +66,11 @@ module _ (next : ℕ → ℕ) (stray : ℕ → Bool) (m : ℕ) where
       }
 
   module _ {x₀ e₀ x e : ℕ} (C : Chained x₀ e₀ x e) where
-    pub chain-ends : x ≡ 0 → Consecutive next stray m x₀ e₀ e
+    pub chain-ends : x ≡ 0 → Consecutive next stray m x₀ e₀ (Some e)
     chain-ends z =
         record {
-          within = C.most;
-          then = λ es.
-              C.rest es
-              ∙ ap (λ (l : List ℕ). in_turn stray m e (l ++ es)) (follow-end next (suc m + e₀ - e) x z)
-              ∙ sym (ap (λ (b : Bool). not b && in_turn stray m e es) (ne_eqb e 0 (λ q. omega (arith, C.least, C.begun))));
+          within = (omega (arith, C.least, C.begun), C.most);
+          then = λ es. C.rest es ∙ ap (λ (l : List ℕ). in_turn stray m e (l ++ es)) (follow-end next (suc m + e₀ - e) x z);
         }
 
     module _ (n : x ≡ 0 → ⊥) where
@@ -84,10 +82,10 @@ module _ (next : ℕ → ℕ) (stray : ℕ → Bool) (m : ℕ) where
           (follow-more next (suc m + e₀ - e) x (omega (arith, C.least, C.begun, C.most)) n)
 
       -- what is met is not what is due
-      broken-off : ((es : List ℕ) → in_turn stray m e₀ (follow next (suc m) x₀ ++ es) ≡ false) → Consecutive next stray m x₀ e₀ 0
-      broken-off t = record { within = omega arith; then = t }
+      broken-off : ((es : List ℕ) → in_turn stray m e₀ (follow next (suc m) x₀ ++ es) ≡ false) → Consecutive next stray m x₀ e₀ None
+      broken-off t = record { within = tt; then = t }
 
-      pub edge-beyond : m < e → Consecutive next stray m x₀ e₀ 0
+      pub edge-beyond : m < e → Consecutive next stray m x₀ e₀ None
       edge-beyond l = broken-off (λ es. more es ∙ turn_end stray m e x _ l)
 
       module _ (l : e ≤ m) where
@@ -95,11 +93,11 @@ module _ (next : ℕ → ℕ) (stray : ℕ → Bool) (m : ℕ) where
             ≡ (eqb x e && (not (stray e) && in_turn stray m (e + 1) (follow next (suc m + e₀ - e - 1) (next x) ++ es)))
         due es = more es ∙ turn_more stray m e x _ l
 
-        pub edge_other : (x ≡ e → ⊥) → Consecutive next stray m x₀ e₀ 0
+        pub edge_other : (x ≡ e → ⊥) → Consecutive next stray m x₀ e₀ None
         edge_other q = broken-off (λ es. due es ∙ rw (ne_eqb x e q))
 
         module _ (q : x ≡ e) {b : Bool} (t : b ≡ stray e) where
-          pub edge-astray : b ≡ true → Consecutive next stray m x₀ e₀ 0
+          pub edge-astray : b ≡ true → Consecutive next stray m x₀ e₀ None
           edge-astray z = broken-off (λ es. due es ∙ rw (eq-eqb x e q, sym t ∙ z))
 
           pub edge-due : {y : ℕ} → b ≡ false → y ≡ next e → Chained x₀ e₀ y (e + 1)
@@ -150,8 +148,8 @@ module _ (h : Heading) (s : List ℕ) (k : ℕ) where
       }
 
   module _ {i e : ℕ} (S : Following i e) where
-    module _ {x r : ℕ} (N : Consecutive (next_at h s) stray F x e r) (l : i ≤ C) (q : x ≡ first_at h s i) where
-      step : bad_edges h s k ≡ not (not (eqb r 0) && in_turn stray F r (chains_of (upto (i + 1) C)))
+    module _ {x : ℕ} {end : Option ℕ} (N : Consecutive (next_at h s) stray F x e end) (l : i ≤ C) (q : x ≡ first_at h s i) where
+      step : bad_edges h s k ≡ not (goes_on stray F end (chains_of (upto (i + 1) C)))
       unfolding chain_at each
       step =
           let later : List ℕ = chains_of (upto (i + 1) C) in
@@ -160,11 +158,13 @@ module _ (h : Heading) (s : List ℕ) (k : ℕ) where
           ∙ ap (λ (y : ℕ). not (in_turn stray F e (follow (next_at h s) (suc F) y ++ later))) (sym q)
           ∙ ap not (N.then later)
 
-      pub broken : r ≡ 0 → bad_edges h s k ≡ true
-      broken z = step ∙ rw (eq-eqb r 0 z)
+      pub broken : end ≡ None → bad_edges h s k ≡ true
+      broken z = rw z at step
 
-      pub onward : (r ≡ 0 → ⊥) → Following (i + 1) r
-      onward z = record { first = omega arith; last = N.within; rest = step ∙ rw (ne_eqb r 0 z) }
+      pub onward : {d : ℕ} → end ≡ Some d → Following (i + 1) d
+      onward {d} z =
+          let w : (1 ≤ d) × (d ≤ suc F) = rw z at N.within in
+          record { first = w.0; last = w.1; rest = rw z at step }
 
     -- behind the last chain every edge was met
     pub all_done : C < i → bad_edges h s k ≡ not (eqb e (F + 1))

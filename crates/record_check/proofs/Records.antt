@@ -8,6 +8,7 @@ use native.Mathlib.Omega.{arith}
 use native.Mathlib.Numerals.{add-one}
 use lib.Dec.{eqb, ltb}
 use borrow.Author.Tests.{lt-ltb, ltb-false, not-true}
+use Rattle.std.specs.Prelude.{Option, Some, None}
 use Rattle.base.specs.Lists.{any, from}
 use Rattle.base.specs.Copy.{Copy, copy_of, before}
 use Rattle.base.specs.Checks.{outside}
@@ -17,7 +18,8 @@ use Rattle.base.proofs.Search.{Search}
 use Rattle.formats.specs.Limits.{most_blocks}
 use Rattle.formats.specs.BoundedSheet.{Heading, block_at, low_at, first_at, next_at, copy_at}
 use Rattle.formats.specs.Rule11.{bad_blocks, bad_lows, bad_copy_order}
-use Rattle.copy_check.specs.BadCopy.{bad_copy}
+use Rattle.copy_check.specs.BadCopy.{copy_in, bad_copy}
+use Rattle.copy_check.specs.declared.CopyKey.{CopyKey}
 use Rattle.record_check.specs.Records.{bad_edges, bad_records}
 use Rattle.record_check.specs.Chains.{Consecutive}
 use Rattle.record_check.proofs.Edges as edges
@@ -100,37 +102,38 @@ module _ (h : Heading) (s : List ℕ) (k : ℕ) where
       simp or_assoc at (ap (λ (b : Bool). b || bad_edges h s k) (sym (wrong-are l)))
       ∙ (λ i. e i || g i)
 
-  -- THE LOOP is at the copy i, behind the copy (w, l); it has met the edges before e
-  pub record Checking (i w l e : ℕ) : Type 0 where
-    pub behind : copy_of w l ≡ copy_before i
+  -- THE LOOP is at the copy i, behind the copy before it; it has met the edges before e
+  pub record Checking (i : ℕ) (previous : CopyKey) (e : ℕ) : Type 0 where
+    pub behind : copy_in previous ≡ copy_before i
     pub search : Search (any wrong (from 1 n)) wrong n i
     pub edges : Following h s k i e
 
-  pub begin : Checking 1 0 0 1
+  pub begin : {first : CopyKey} → copy_in first ≡ copy_of 0 0 → Checking 1 first 1
   unfolding copy_before
-  begin = record { behind = refl; search = search.begin refl refl; edges = edges.begin h s k }
+  begin z = record { behind = z; search = search.begin refl refl; edges = edges.begin h s k }
 
-  module _ {i w l e : ℕ} (S : Checking i w l e) where
+  module _ {i : ℕ} {previous : CopyKey} {e : ℕ} (S : Checking i previous e) where
     -- one copy, as its words were read
-    module _ (m : i ≤ n) {v a first : ℕ} (p : v ≡ block_at h s i) (q : a ≡ low_at h s i) (r : first ≡ first_at h s i) where
-      here : copy_of v a ≡ copy_at h s i
+    module _ (m : i ≤ n) {key : CopyKey} (p : copy_in key ≡ copy_of (block_at h s i) (low_at h s i)) where
+      here : copy_in key ≡ copy_at h s i
       unfolding copy_at
-      here = λ x. copy_of (p x) (q x)
+      here = p
 
-      wrong-is : {x b : Bool} → x ≡ bad_copy h.largest (copy_of w l) (copy_of v a) → x ≡ b → wrong i ≡ b
+      wrong-is : {x b : Bool} → x ≡ bad_copy h.largest (copy_in previous) (copy_in key) → x ≡ b → wrong i ≡ b
       wrong-is z y = (λ x. bad_copy h.largest (sym S.behind x) (sym here x)) ∙ sym z ∙ y
 
-      pub bad-copy : {x : Bool} → x ≡ bad_copy h.largest (copy_of w l) (copy_of v a) → x ≡ true → true ≡ bad_records h s k
+      pub bad-copy : {x : Bool} → x ≡ bad_copy h.largest (copy_in previous) (copy_in key) → x ≡ true → true ≡ bad_records h s k
       bad-copy z y = sym (records-are (omega (arith, S.search.least)) true _ (sym (search.found S.search m (wrong-is z y))) refl)
 
       -- its chain
-      module _ {end : ℕ} (N : Consecutive (next_at h s) (stray h s k) h.edges first e end) where
-        pub bad-chain : end ≡ 0 → true ≡ bad_records h s k
+      module _ {first : ℕ} (r : first ≡ first_at h s i) {end : Option ℕ} (N : Consecutive (next_at h s) (stray h s k) h.edges first e end) where
+        pub bad-chain : end ≡ None → true ≡ bad_records h s k
         bad-chain z = sym (records-are (omega (arith, S.search.least)) _ true refl (edges.broken h s k S.edges N m r z)
             ∙ or-true (any wrong (from 1 n)))
 
-        pub goes_on : {x : Bool} → x ≡ bad_copy h.largest (copy_of w l) (copy_of v a) → x ≡ false → (end ≡ 0 → ⊥) → Checking (i + 1) v a end
-        goes_on z y u = record {
+        pub onward : {x : Bool} → x ≡ bad_copy h.largest (copy_in previous) (copy_in key) → x ≡ false → {d : ℕ} → end ≡ Some d
+            → Checking (i + 1) key d
+        onward z y u = record {
           behind = here ∙ next-before i S.search.least;
           search = search.onward S.search m (wrong-is z y);
           edges = edges.onward h s k S.edges N m r u;

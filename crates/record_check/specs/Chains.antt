@@ -1,6 +1,6 @@
 -- Chains whose edges are consecutive numbers, followed one after the other, and none of which strays.
 -- Rests on base Lists, formats Words.
-use Rattle.std.specs.Prelude.{◌≡◌, Bool, ◌&&◌, not, List, ◌++◌, ℕ, suc, ◌-◌, ◌≤◌, eqb}
+use Rattle.std.specs.Prelude.{◌≡◌, Bool, false, ◌&&◌, not, List, ◌++◌, ℕ, suc, ◌-◌, ◌≤◌, Option, Some, None, IfSome}
 use Rattle.base.specs.Lists.{any, from, equal}
 use Rattle.formats.specs.Words.{follow}
 
@@ -12,8 +12,13 @@ edges_up_to m e = from e (suc m - e)
 unfoldable pub in_turn : (ℕ → Bool) → ℕ → ℕ → List ℕ → Bool
 in_turn stray m e es = equal es (edges_up_to m e) && not (any stray (edges_up_to m e))
 
--- the chain from x on has the edges from e up to the one before r, or r is 0 and it has others, or one that strays; whatever edges are met behind
--- it
-pub record Consecutive (next : ℕ → ℕ) (stray : ℕ → Bool) (m x e r : ℕ) : Type 0 where
-  pub within : r ≤ suc m
-  pub then : (es : List ℕ) → in_turn stray m e (follow next (suc m) x ++ es) ≡ (not (eqb r 0) && in_turn stray m r es)
+-- the edges es that are met behind a chain go on from the edge that it leaves due, if it leaves one
+abbrev pub goes_on : (ℕ → Bool) → ℕ → Option ℕ → List ℕ → Bool
+goes_on stray m None es = false
+goes_on stray m (Some e) es = in_turn stray m e es
+
+-- the chain from x on has the edges from e up to the one before that which is due behind it, or none is and it has others, or one that strays;
+-- whatever edges are met behind it
+pub record Consecutive (next : ℕ → ℕ) (stray : ℕ → Bool) (m x e : ℕ) (end : Option ℕ) : Type 0 where
+  pub within : IfSome end (λ d. (1 ≤ d) × (d ≤ suc m))
+  pub then : (es : List ℕ) → in_turn stray m e (follow next (suc m) x ++ es) ≡ goes_on stray m end es

@@ -1,92 +1,76 @@
 // The records of a bounded sheet, behind any header: one pass over the copies, each with its chain of edges and their targets.
-// Rests on words, copy_check; the promise is an equation with specs Records, over formats Rule11.
+// Rests on words, bounded_records, copy_check; the promise is an equation with specs Records, over formats Rule11.
 #![tactic(auto)]
 
-ghost use Rattle.std.specs.Prelude.{◌≡◌, suc, ◌+◌, ◌*◌, ◌≤◌, length};
-ghost use Rattle.formats.specs.Limits.{most_copies, most_bounded_edges};
-ghost use Rattle.formats.specs.Words.{next_from, target_from};
-ghost use Rattle.formats.specs.BoundedSheet.{heading_of};
-ghost use Rattle.formats.specs.Rule11.{Formed};
+ghost use Rattle.std.specs.Prelude.{◌≡◌, suc, ◌≤◌};
+ghost use Rattle.formats.specs.Limits.{most_copies};
+ghost use Rattle.formats.specs.BoundedSheet.{next_at, target_at};
+ghost use Rattle.bounded_records.specs.Records.{heading_in};
 ghost use Rattle.record_check.specs.Records.{is_stray, bad_records};
 ghost use Rattle.record_check.specs.Chains.{Consecutive};
 
-use copy_check::is_bad_copy;
-use words::{field, is_outside, word_at};
+use bounded_records::BoundedRecords;
+use copy_check::CopyKey;
+use words::is_outside;
 
-// A target that is neither 0 nor one of the copies k + 1 to n, those that are no start copies.
-fn is_stray(k: usize, n: usize, t: usize) -> bool
-    requires { k ≤ most_copies }
-    ensures { result ≡ is_stray k n t }
+/// Whether a target is neither 0 nor one of the copies behind the start copies.
+#[tactic(auto, unfolding(crate::specs::Records::is_stray))]
+fn is_stray(starts: usize, copies: usize, target: usize) -> bool
+    requires { starts ≤ most_copies }
+    ensures { result ≡ is_stray starts copies target }
 {
-    if t == 0 {
-        return false;
-    }
-    is_outside(k + 1, n, t)
+    target != 0 && is_outside(starts + 1, copies, target)
 }
 
-// Follows the chain from `first` on, whose edges are to be `due`, `due` + 1, .., with targets 0 or k + 1 to n: the number behind its last edge,
-// 0 where it has others.
-fn chain_end(
-    s: &[u16],
-    base: usize,
-    m: usize,
-    first: usize,
-    due: usize,
-    k: usize,
-    n: usize,
-) -> usize
-    requires m_in_bounds { base + 2 * m ≤ length s.now }
-    requires le_due { (1 ≤ due) × (due ≤ suc m) × (m ≤ most_bounded_edges) }
-    requires k_le_most_copies { k ≤ most_copies }
-    ensures { Consecutive (next_from s.now base) (λ e. is_stray k n (target_from s.now base e)) m first due result }
+/// Follows the chain from `first` on, whose edges are to be `due`, `due` + 1, .., with targets 0 or copies behind the start copies: the edge
+/// that is due behind its last, None where it has others.
+fn chain_end(records: BoundedRecords<'_>, first: usize, due: usize, starts: usize) -> Option<usize>
+    requires due_in_bounds { (1 ≤ due) × (due ≤ suc records.edges) }
+    requires starts_in_bounds { starts ≤ most_copies }
+    ensures { Consecutive (next_at (heading_in records.entry) records.entry.words.now)
+        (λ edge. is_stray starts records.entry.copies (target_at (heading_in records.entry) records.entry.words.now edge))
+        records.entry.edges first due result }
 {
-    let mut x = first;
-    let mut e = due;
-    while x != 0 {
-        if m < e {
-            return 0;
+    let mut met = first;
+    for edge in due..records.edges + 1 {
+        if met == 0 {
+            return Some(edge);
         }
-        if x != e {
-            return 0;
+        if met != edge {
+            return None;
         }
-        let t = field(s, base, 2, e, 0);
-        if is_stray(k, n, t) {
-            return 0;
+        if is_stray(starts, records.copies, records.target(edge)) {
+            return None;
         }
-        x = field(s, base, 2, e, 1);
-        e += 1;
+        met = records.next_edge(edge);
     }
-    e
+    if met != 0 {
+        return None;
+    }
+    Some(records.edges + 1)
 }
 
-// One pass over the copies, of which copy i has the words from the word p on: a bad copy, or chains that do not meet the edges 1 to F in this
-// order, with targets 0 or k + 1 to C.
-pub fn bad_copies(s: &[u16], at: usize, c: usize, f: usize, b: usize, k: usize) -> bool
-    requires { Formed (heading_of at c f b) s.now × (k ≤ c) }
-    ensures { result ≡ bad_records (heading_of at c f b) s.now k }
+/// One pass over the copies: one of them is bad, or their chains do not meet the edges 1 to F in this order, with targets 0 or copies behind
+/// the start copies.
+pub fn has_bad_record(records: BoundedRecords<'_>, starts: usize) -> bool
+    requires { starts ≤ records.copies }
+    ensures { result ≡ bad_records (heading_in records.entry) records.entry.words.now starts }
 {
-    let base = at + 3 * c;
-    let mut w = 0;
-    let mut l = 0;
-    let mut e = 1;
-    let mut i = 1;
-    let mut p = at;
-    while i <= c {
-        let v = word_at(s, p);
-        let a = word_at(s, p + 1);
-        let first = word_at(s, p + 2);
-        if is_bad_copy(b, w, l, v, a) {
+    let mut previous = CopyKey { block: 0, low: 0 };
+    let mut due = 1;
+    for copy in 1..records.copies + 1 {
+        let key = CopyKey {
+            block: records.block(copy),
+            low: records.low(copy),
+        };
+        if key.is_bad(previous, records.largest) {
             return true;
         }
-        let end = chain_end(s, base, f, first, e, k, c);
-        if end == 0 {
-            return true;
+        match chain_end(records, records.first_edge(copy), due, starts) {
+            Some(end) => due = end,
+            None => return true,
         }
-        e = end;
-        w = v;
-        l = a;
-        i += 1;
-        p += 3;
+        previous = key;
     }
-    e != f + 1
+    due != records.edges + 1
 }

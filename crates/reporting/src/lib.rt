@@ -2,12 +2,13 @@
 // Rests on input, framing and stream, where the text is made; this decides nothing but when to stop: at the end, at a failure, or where no sheet may come.
 #![tactic(auto)]
 
-ghost use Rattle.std.specs.Prelude.{◌<◌, ◌*◌, true, ◌≡◌, List, ℕ, length, IfOk, IfErr, OnOk, OnErr, IfSome};
+ghost use Rattle.std.specs.Prelude.{◌<◌, ◌*◌, true, ◌≡◌, Bool, List, ℕ, length, IfOk, IfErr, OnOk, OnErr, IfSome};
 ghost use Rattle.std.specs.Io.KnownBytes.{Appends};
 ghost use Rattle.formats.specs.Limits.{most_blocks, most_sheets};
 ghost use Rattle.calls.specs.Report.{report};
 ghost use Rattle.file_words.specs.Longer.{longer_file};
 ghost use Rattle.catalogue.specs.Standing.{Ready};
+ghost use Rattle.framing.specs.Came.{may_come};
 ghost use Rattle.framing.specs.Feeding.{Able};
 ghost use Rattle.stream.specs.Ending.{Closable};
 ghost use Rattle.input.specs.Failed.{OfInput, OfOutput, OfInputOrOutput};
@@ -17,7 +18,7 @@ ghost use Rattle.reporting.specs.Failed.{Unwritten, Unread, Stood};
 
 use catalogue::MARKS;
 use file_words::LONGER_FILE;
-use framing::{Progress, begin, feed_byte};
+use framing::{Frame, Progress, begin, feed_byte};
 use input::{Failure, PIECE, no_end, print, read_piece};
 use sheet_lines::LINE_SIZE;
 use std::io::{Read, Write};
@@ -26,26 +27,26 @@ use unused_lines::UNUSED_SIZE;
 
 // Feeds the next bytes, and writes what is handed back for each.
 fn feed_piece<W: Write>(
-    s: Progress,
+    first: Progress,
     bytes: &[u8],
     row: &mut [u8],
-    marks: &mut [u8],
+    marks: &mut [bool],
     writer: &mut W,
 ) -> Result<Progress, Failure>
-    requires { Able s row.old marks.old }
+    requires { Able first row.old marks.old }
     ensures able { IfOk result (λ t. Able t row.new marks.new) }
-    ensures takes { IfOk result (λ t. Takes bytes.now s row.old marks.old t row.new marks.new) }
-    ensures prints { IfOk result (λ t. Prints bytes.now (W.contents writer.old) s row.old marks.old
+    ensures takes { IfOk result (λ t. Takes bytes.now first row.old marks.old t row.new marks.new) }
+    ensures prints { IfOk result (λ t. Prints bytes.now (W.contents writer.old) first row.old marks.old
         (W.contents writer.new) t row.new marks.new) }
-    ensures err { OnErr result (Unwritten bytes.now s row.old marks.old row.new marks.new) }
+    ensures err { OnErr result (Unwritten bytes.now first row.old marks.old row.new marks.new) }
     ensures failure { IfErr result OfOutput }
 {
     let mut text = [0u8; LINE_SIZE];
-    let mut progress = s;
-    for b in bytes {
-        let handed = feed_byte(progress, *b, row, marks, &mut text);
-        progress = handed.progress;
-        print(writer, &text[..handed.size])?;
+    let mut progress = first;
+    for byte in bytes {
+        let fed = feed_byte(progress, *byte, row, marks, &mut text);
+        progress = fed.now;
+        print(writer, &text[..fed.size])?;
     }
     Ok(progress)
 }
@@ -54,7 +55,7 @@ fn feed_piece<W: Write>(
 fn read_catalogue<R: Read, W: Write>(
     reader: &mut R,
     row: &mut [u8],
-    marks: &mut [u8],
+    marks: &mut [bool],
     writer: &mut W,
 ) -> Result<Progress, Failure>
     requires { (length row.old ≡ longer_file) × (length marks.old ≡ most_sheets * most_blocks) }
@@ -66,59 +67,63 @@ fn read_catalogue<R: Read, W: Write>(
         (W.contents writer.old) (W.contents writer.new) row.new marks.new) }
     ensures failure { IfErr result OfInputOrOutput }
 {
-    let mut s = begin();
+    let mut progress = begin();
     let mut space = [0u8; PIECE];
     for _ in 0..u64::MAX {
-        if !s.more {
-            return Ok(s);
+        if progress.frame == Frame::Full {
+            return Ok(progress);
         }
-        let n = read_piece(reader, &mut space)?;
-        if n == 0 {
-            return Ok(s);
+        let count = read_piece(reader, &mut space)?;
+        if count == 0 {
+            return Ok(progress);
         }
-        s = feed_piece(s, &space[..n], row, marks, writer)?;
+        progress = feed_piece(progress, &space[..count], row, marks, writer)?;
     }
     Err(no_end())
 }
 
 // Writes the closing parts.
-fn print_parts<W: Write>(first: Closing, marks: &[u8], writer: &mut W) -> Result<(), Failure>
+fn print_parts<W: Write>(first: Closing, marks: &[bool], writer: &mut W) -> Result<(), Failure>
     requires { Closable first marks.now }
     ensures ok { OnOk result (Closes (W.contents writer.old) first marks.now (W.contents writer.new)) }
     ensures failure { IfErr result OfOutput }
 {
     let mut text = [0u8; UNUSED_SIZE];
     let mut closing = first;
-    while closing.more {
-        let part = next_part(closing, marks, &mut text);
-        closing = part.closing;
-        print(writer, &text[..part.size])?;
+    while let Some(part) = closing.next {
+        let handed = next_part(part, closing.tally, marks, &mut text);
+        closing = handed.now;
+        print(writer, &text[..handed.size])?;
     }
     Ok(())
 }
 
 // Writes what is still to be printed.
-fn print_last<W: Write>(s: Progress, marks: &mut [u8], writer: &mut W) -> Result<(), Failure>
-    requires { Ready s.tally marks.old × (s.more ≡ true → s.tally.place < most_sheets) }
-    ensures ok { OnOk result (Finishes (W.contents writer.old) s marks.old (W.contents writer.new)) }
+fn print_last<W: Write>(
+    progress: Progress,
+    marks: &mut [bool],
+    writer: &mut W,
+) -> Result<(), Failure>
+    requires { Ready progress.tally marks.old × (may_come progress.frame ≡ true → progress.tally.place < most_sheets) }
+    ensures ok { OnOk result (Finishes (W.contents writer.old) progress marks.old (W.contents writer.new)) }
     ensures failure { IfErr result OfOutput }
 {
     let mut text = [0u8; LINE_SIZE];
-    let part = finish(s, marks, &mut text);
-    print(writer, &text[..part.size])?;
-    print_parts(part.closing, marks, writer)
+    let line = finish(progress, marks, &mut text);
+    print(writer, &text[..line.size])?;
+    print_parts(line.now, marks, writer)
 }
 
-// Reads a catalogue to its end, and writes its report.
+/// Reads a catalogue to its end, and writes its report.
 pub fn run<R: Read, W: Write>(reader: &mut R, writer: &mut W) -> Result<(), Failure>
     ensures ok { OnOk result (IfSome (R.remaining reader.old)
         (λ xs. Appends (W.contents writer.old) (W.contents writer.new) (report xs))) }
-    ensures unread { IfErr result (λ e. OfInput e → (row : List ℕ) × (marks : List ℕ)
+    ensures unread { IfErr result (λ e. OfInput e → (row : List ℕ) × (marks : List Bool)
         × Unread (R.remaining reader.old) (R.remaining reader.new) (W.contents writer.old) (W.contents writer.new) row marks) }
     ensures failure { IfErr result OfInputOrOutput }
 {
     let mut row = [0u8; LONGER_FILE];
-    let mut marks = [0u8; MARKS];
-    let s = read_catalogue(reader, &mut row, &mut marks, writer)?;
-    print_last(s, &mut marks, writer)
+    let mut marks = [false; MARKS];
+    let progress = read_catalogue(reader, &mut row, &mut marks, writer)?;
+    print_last(progress, &mut marks, writer)
 }

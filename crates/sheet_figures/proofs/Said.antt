@@ -22,7 +22,7 @@ use Rattle.digits.specs.Wrote.{Wrote}
 use Rattle.digits.proofs.Due.{wrote_as}
 use Rattle.margins.specs.Margins.{margins_at}
 use Rattle.margins.proofs.Task.{margins-are}
-use Rattle.unused.specs.Marks.{marked_blocks, First}
+use Rattle.unused.specs.Marks.{Marks, marked_blocks, First}
 use Rattle.unused.proofs.Named.{names-none}
 use Rattle.sheet_figures.specs.Says.{Costs, Says, Small}
 
@@ -32,7 +32,7 @@ unfolding sheet_line refused_as
 by_number p zero l = absurd (omega arith)
 by_number p (suc n) l = refl
 
-pub refused_says : {n p k : ℕ} {marks old text : List ℕ} → 0 < n → First 0 marks → Wrote old 0 (refused_line p n) text k × (k ≤ length text)
+pub refused_says : {n p k : ℕ} {marks : Marks} {old text : List ℕ} → 0 < n → First 0 marks → Wrote old 0 (refused_line p n) text k × (k ≤ length text)
     → Says (refused_as n) p (record { blocks = 0; copies = 0; edges = 0; size = k }) marks old text
 unfolding refused_as
 refused_says {n} {p} l F w =
@@ -72,7 +72,7 @@ module _ (w : List ℕ) (e : refused listing_order w ≡ 0) where
           let F = (read-ruled t rule-kept b).form in
           record { blocks = omega (arith, i, blocks-most); copies = F.copies.1; edges = F.edges.1 }
 
-      pub accepted-says : {p s : ℕ} {marks old text : List ℕ} → marked_blocks marks ≡ unused_blocks g.blocks t
+      pub accepted-says : {p s : ℕ} {marks : Marks} {old text : List ℕ} → marked_blocks marks ≡ unused_blocks g.blocks t
           → {area : List ℕ} → Costs w area
           → Wrote old 0 (figures_line p g.blocks (heading t).copies (heading t).edges (margins_at t area)) text s × (s ≤ length text)
           → Says (accepted_figures w) p (record { blocks = g.blocks; copies = h.copies; edges = h.edges; size = s }) marks old text

@@ -7,7 +7,7 @@ use Rattle.formats.specs.Report.{Figures, sheet_line}
 use Rattle.calls.specs.SheetGraph.{graph, task}
 use Rattle.calls.specs.Area.{Table}
 use Rattle.digits.specs.Wrote.{Wrote}
-use Rattle.unused.specs.Marks.{marked_blocks}
+use Rattle.unused.specs.Marks.{Marks, marked_blocks}
 use Rattle.sheet_figures.specs.declared.Reported.{Reported}
 
 -- a work area of the most cells that stands for the completion costs of a graph sheet
@@ -16,7 +16,7 @@ pub record Costs (w area : List ℕ) : Type 0 where
   pub table : Table (graph w) (header w).blocks (task w 0).largest area
 
 -- of the sheet at place p, with the figures f; its line is written into the row old
-pub record Says (f : Figures) (p : ℕ) (r : Reported) (marks old text : List ℕ) : Type 0 where
+pub record Says (f : Figures) (p : ℕ) (r : Reported) (marks : Marks) (old text : List ℕ) : Type 0 where
   pub blocks : r.blocks ≡ f.blocks
   pub copies : r.copies ≡ f.copies
   pub edges : r.edges ≡ f.edges

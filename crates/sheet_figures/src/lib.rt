@@ -21,8 +21,8 @@ use headers::{read_header, read_heading};
 use sheet_lines::{write_figures, write_refused};
 use unused::{mark_first, mark_unused};
 
-// Of a sheet: N, C and F, 0 where it is refused, and the length of its line.
-#[derive(Drop)]
+/// Of a sheet: N, C and F, 0 where it is refused, and the length of its line.
+#[derive(Clone, Copy, Debug, PartialEq, Eq)]
 pub struct Reported {
     pub blocks: usize,
     pub copies: usize,
@@ -30,30 +30,30 @@ pub struct Reported {
     pub size: usize,
 }
 
-// What is said of a refused sheet.
-pub fn report_refused(number: usize, place: usize, marks: &mut [u8], text: &mut [u8]) -> Reported
+/// What is said of a refused sheet.
+pub fn report_refused(number: usize, place: usize, marks: &mut [bool], text: &mut [u8]) -> Reported
     requires number_nonzero { (0 < number) × (number < number_limit) × (place < number_limit) }
     requires marks_len { length marks.old ≡ most_blocks }
     requires sheet_room_in_bounds { sheet_room ≤ length text.old }
     ensures { Says (refused_as number) place result marks.new text.old text.new × Small result }
 {
     mark_first(marks, 0);
-    let n = write_refused(text, place, number);
+    let size = write_refused(text, place, number);
     Reported {
         blocks: 0,
         copies: 0,
         edges: 0,
-        size: n,
+        size,
     }
 }
 
-// What is said of an accepted graph sheet, whose bounded sheet stands at the front of a row; the area has its completion costs.
+/// What is said of an accepted graph sheet, whose bounded sheet stands at the front of a row; the area has its completion costs.
 pub fn report_built(
     words: &[u16],
     row: &[u16],
     area: &[u8],
     place: usize,
-    marks: &mut [u8],
+    marks: &mut [bool],
     text: &mut [u8],
 ) -> Reported
     requires words_value { refused listing_order words.now ≡ 0 }
@@ -64,21 +64,21 @@ pub fn report_built(
     requires sheet_room_in_bounds { sheet_room ≤ length text.old }
     ensures { Says (accepted_figures words.now) place result marks.new text.old text.new × Small result }
 {
-    let g = read_header(words);
-    let t = front_sheet(row);
-    mark_unused(t, g.blocks, marks);
-    let h = read_heading(t);
-    let k = write_figures(t, area, text, place, g.blocks);
+    let header = read_header(words);
+    let sheet = front_sheet(row);
+    mark_unused(sheet, header.blocks, marks);
+    let heading = read_heading(sheet);
+    let size = write_figures(sheet, area, text, place, header.blocks);
     Reported {
-        blocks: g.blocks,
-        copies: h.copies,
-        edges: h.edges,
-        size: k,
+        blocks: header.blocks,
+        copies: heading.copies,
+        edges: heading.edges,
+        size,
     }
 }
 
-// What is said of a length beyond the words left.
-pub fn report_cut(place: usize, marks: &mut [u8], text: &mut [u8]) -> Reported
+/// What is said of a length beyond the words left.
+pub fn report_cut(place: usize, marks: &mut [bool], text: &mut [u8]) -> Reported
     requires place_lt_number_limit { place < number_limit }
     requires marks_len { length marks.old ≡ most_blocks }
     requires sheet_room_in_bounds { sheet_room ≤ length text.old }

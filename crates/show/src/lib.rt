@@ -1,52 +1,59 @@
-// A file as decimal words, or its refusal: below the decode program, which reads the file and writes the text.
-// Rests on kept, file_words, decimal and text; the text is `shown` of the whole file.
+//! A file as decimal words, or its refusal: its text is `shown` of the whole file; below the decode program, which reads and writes.
 #![tactic(auto)]
 
-ghost use Rattle.std.specs.Prelude.{◌≡◌, List, ℕ, ◌≤◌, ◌<◌, length};
-ghost use Rattle.formats.specs.File.{words_of};
-ghost use Rattle.digits.specs.Wrote.{Wrote};
-ghost use Rattle.decimal.specs.Writing.{sheet_text};
+ghost use Rattle.std.specs.Prelude.{◌≡◌, List, ℕ, ◌≤◌, length, Some};
 ghost use Rattle.kept.specs.Held.{Held, held_as};
-ghost use Rattle.show.specs.Shown.{shown_file, shown_room, shown};
+ghost use Rattle.show.specs.Shown.{most_shown, shown_file, shown};
+ghost use Rattle.show.specs.Texts.{shown_text};
 
-use decimal::decode;
+use base::Refusal;
+use decimal::SheetText;
 use file_words::words_of;
 use kept::Kept;
-use text::write_refusal;
+use std::fmt;
+use text::RefusalLine;
 
-// The most words of a file that is shown.
+/// The most words of a file that is shown.
 pub const MOST_WORDS: usize = 65535;
 
-// The bytes of one word more: as much of a file as is kept.
+/// The bytes of one word more: as much of a file as is kept.
 pub const SHOWN_FILE: usize = 2 * (MOST_WORDS + 1);
 
-// A word takes at most five digits and what parts it from the next.
-pub const SHOWN_TEXT: usize = 6 * MOST_WORDS;
-
-// The words of some bytes.
-fn show_words(bytes: &[u8], text: &mut [u8]) -> usize
-    requires bytes_len_bound { length bytes.now < shown_file }
-    requires shown_room_in_bounds { shown_room ≤ length text.old }
-    ensures { Wrote text.old 0 (sheet_text (words_of bytes.now)) text.new result × (result ≤ length text.new) }
-{
-    let mut words = [0u16; MOST_WORDS];
-    let k = words_of(bytes, &mut words);
-    decode(&words[..k], text)
+/// What is shown of a file: the line of a refusal, or the file's words.
+#[derive(Clone, Copy, Debug)]
+pub enum FileText<'a> {
+    Refused(Refusal),
+    Words(SheetText<'a>),
 }
 
-// A file, of which a row has the first bytes; answers the length of the text.
-pub fn show_kept(s: Kept, row: &[u8], text: &mut [u8]) -> usize
-    requires row_len { (length row.now ≡ shown_file) × (s.count ≤ length row.now) }
-    requires shown_room_in_bounds { shown_room ≤ length text.old }
-    ensures upper_bound { result ≤ length text.new }
-    ensures by_index { (xs : List ℕ) → Held xs row.now (held_as s) → Wrote text.old 0 (shown xs) text.new result }
+impl fmt::Display for FileText<'_> {
+    ghost output = { λ shown. Some (shown_text shown) };
+
+    fn fmt<W: fmt::Write>(&self, f: &mut fmt::Formatter<W>) -> fmt::Result {
+        match self {
+            FileText::Refused(refusal) => {
+                let line = RefusalLine {
+                    number: refusal.number(),
+                };
+                write!(f, "{line}")
+            }
+            FileText::Words(sheet) => write!(f, "{sheet}"),
+        }
+    }
+}
+
+/// What is shown of an input, of which a row has the first bytes; its words are put to the front of another row.
+pub fn show_kept<'a>(kept: Kept, row: &[u8], words: &'a mut [u16]) -> FileText<'a>
+    requires row_len { (length row.now ≡ shown_file) × (kept.count ≤ length row.now) }
+    requires room { most_shown ≤ length words.old }
+    ensures { (xs : List ℕ) → Held xs row.now (held_as kept) → shown_text result ≡ shown xs }
 {
-    if s.odd {
-        return write_refusal(1, text);
+    if kept.odd {
+        return FileText::Refused(Refusal::TooShort);
     }
-    let n = s.count;
-    if row.len() <= n {
-        return write_refusal(3, text);
+    if row.len() <= kept.count {
+        return FileText::Refused(Refusal::WrongLength);
     }
-    show_words(&row[..n], text)
+    let count = words_of(&row[..kept.count], words);
+    FileText::Words(SheetText(&words[..count]))
 }

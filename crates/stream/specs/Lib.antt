@@ -1,2 +1,2 @@
--- what the end of the input and a closing part promise: all_figures, Listed, Lists, Closable, Closed, Parting, Finishes, Parts
+-- what the end of the input and a closing part promise: all_figures, Listed, Lists, closing_of, Closable, Closed, Parting, Finishes, Parts
 pub mod Ending

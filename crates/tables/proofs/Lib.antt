@@ -8,3 +8,5 @@ pub mod Rows
 pub mod Places
 -- the marked copies from a cell on, and a loop over them: rest, scan-of, cell-fits, at_first, at_next, at-end
 pub mod Rest
+-- the marked cells of a row, one after the other, and their copies: set-none, set-first, set-taken, copies-set
+pub mod SetCells

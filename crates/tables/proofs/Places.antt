@@ -113,9 +113,9 @@ unfolding cell_count
 count_code n b = rw add-one
 
 -- CELLS THAT ARE CLEAR: none, one more, those of two stretches, eight whose bits together are 0
-pub clear_none : (m : List ℕ) (i : ℕ) → ClearFrom m i i
+pub clear_none : (m : List ℕ) (i j : ℕ) → j ≤ i → ClearFrom m i j
 unfolding ClearFrom
-clear_none m i x p q = absurd (omega arith)
+clear_none m i j l x p q = absurd (omega arith)
 
 module _ (m : List ℕ) where
   pub clear-more : (i j : ℕ) → ClearFrom m i j → get_or m j 0 ≡ 0 → ClearFrom m i (j + 1)
@@ -126,13 +126,13 @@ module _ (m : List ℕ) where
       go (yes z) = ap (λ (k : ℕ). get_or m k 0) z ∙ e
       go (no n) = h x p (omega arith)
 
-  pub clear_both : (i j k : ℕ) → ClearFrom m i j → ClearFrom m j k → ClearFrom m i k
+  pub clear_both : (i j : ℕ) {k n : ℕ} → ClearFrom m i j → ClearFrom m j k → n ≡ k → ClearFrom m i n
   unfolding ClearFrom
-  clear_both i j k g h x p q = go (dec_lt x j)
+  clear_both i j g h e x p q = go (dec_lt x j)
     where
       go : Dec (x < j) → get_or m x 0 ≡ 0
       go (yes l) = g x p l
-      go (no l) = h x (omega arith) q
+      go (no l) = h x (omega arith) (omega arith)
 
 -- no bits together, none in either
 pub or-none : (a b : ℕ) → bit_or a b ≡ 0 → (a ≡ 0) × (b ≡ 0)

@@ -18,11 +18,11 @@ use Rattle.tables.specs.Scan.{IsCell, ClearFrom, NextMarked}
 use Rattle.tables.proofs.Places.{candidate-here, none-past, code-cell, cell-block}
 
 module _ {A : Type 0} (f : A → Bool) where
-  keep-yes : (x : A) (xs : List A) → f x ≡ true → keep f (x ∷ xs) ≡ x ∷ keep f xs
+  pub keep-yes : (x : A) (xs : List A) → f x ≡ true → keep f (x ∷ xs) ≡ x ∷ keep f xs
   unfolding keep
   keep-yes x xs e = rw (e, keep)
 
-  keep-no : (x : A) (xs : List A) → f x ≡ false → keep f (x ∷ xs) ≡ keep f xs
+  pub keep-no : (x : A) (xs : List A) → f x ≡ false → keep f (x ∷ xs) ≡ keep f xs
   unfolding keep
   keep-no x xs e = rw (e, keep)
 

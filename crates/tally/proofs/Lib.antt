@@ -1,2 +1,2 @@
--- products are small, the greatest by its test, one sheet more: small, stays, taken, tallied, fits
+-- the greatest is small, one sheet more: small-most, tallied, fits
 pub mod Steps

@@ -1,27 +1,22 @@
--- Products are small; the greatest by its test.
+-- The greatest is small; one sheet more.
 -- Rests on formats Limits and Report, specs Tallies.
 use mathlib.Core.Path.{◌≡◌, refl, sym, ap, subst, ◌∙◌}
 use mathlib.Core.Bool.{Bool, true, false}
-use Prim.Native.Nat.{ℕ, suc, ◌*◌, ◌≤◌, ◌<◌}
+use Prim.Native.Nat.{ℕ, suc, ◌*◌, ◌≤◌}
 use native.Mathlib.Omega.{arith}
-use native.Mathlib.Nat.{mul-le-mul}
-use borrow.Author.Tests.{lt-ltb, le-ltb}
+use lib.Dec.{ltb}
 use Rattle.formats.specs.Limits.{most_blocks, most_copies, most_bounded_edges}
-use Rattle.formats.specs.Report.{Figures, Sums, plus, Most, greater, most_of}
+use Rattle.formats.specs.Report.{Figures, Sums, plus, Most, no_most, greater, most_of}
 use Rattle.tally.specs.declared.Tally.{Tally}
 use Rattle.tally.specs.Tallies.{sums_of, most_from, figured, Fits, Tallied}
 
-pub small : (a b : ℕ) → a ≤ most_copies → b ≤ most_blocks → a * b ≤ most_copies * most_blocks
-small a b p q = mul-le-mul {n₁ = a} {m₁ = b} {n₂ = most_copies} {m₂ = most_blocks} p q
-
-module _ (m : Most) (p : ℕ) (f : Figures) {old new : ℕ} (e : old ≡ m.copies * f.blocks) (g : new ≡ f.copies * m.blocks) where
-  pub stays : new ≤ old → m ≡ most_of m p f
-  unfolding greater most_of
-  stays l = rw (le-ltb (m.copies * f.blocks) (f.copies * m.blocks) (omega (arith, e, g)), most_of)
-
-  pub taken : old < new → record { place = p; copies = f.copies; blocks = f.blocks } ≡ most_of m p f
-  unfolding greater most_of
-  taken l = rw (lt-ltb (m.copies * f.blocks) (f.copies * m.blocks) (omega (arith, e, g)), most_of)
+-- any copy is above none
+pub above_none : (n c : ℕ) → ltb 0 c ≡ greater (figured n c 0) no_most
+unfolding greater
+above_none n c =
+    let l : 0 * n ≡ 0 = omega arith in
+    let r : c * 1 ≡ c = omega arith in
+    rw (l, r) refl
 
 -- the edges are not compared
 pub by-copies : (m : Most) (p n c e : ℕ) → most_of m p (figured n c 0) ≡ most_of m p (figured n c e)
@@ -44,12 +39,12 @@ small-most m p f S q r = go (greater f m) refl
 
 -- ONE SHEET MORE
 module _ (t t' : Tally) (n c e : ℕ) (F : Fits t) (p : t'.place ≡ suc t.place)
-    (q : sums_of t' ≡ plus (sums_of t) (figured n c e)) (m : most_from t'.most ≡ most_of (most_from t.most) t'.place (figured n c 0)) where
+    (q : sums_of t' ≡ plus (sums_of t) (figured n c e)) (m : most_from t'.most ≡ most_of (most_from t.most) (suc t.place) (figured n c 0)) where
   pub tallied : Tallied (figured n c e) t t'
   tallied = record {
     place = p;
     sums = q;
-    most = m ∙ by-copies (most_from t.most) t'.place n c e ∙ ap (λ (x : ℕ). most_of (most_from t.most) x (figured n c e)) p;
+    most = m ∙ by-copies (most_from t.most) (suc t.place) n c e;
   }
 
   pub fits : n ≤ most_blocks → c ≤ most_copies → e ≤ most_bounded_edges → Fits t'
@@ -58,7 +53,7 @@ module _ (t t' : Tally) (n c e : ℕ) (F : Fits t) (p : t'.place ≡ suc t.place
       let l = F.most-place in
       let S : Small t'.place (most_from t.most) =
       record { place = omega (arith, p, l); copies = F.most-copies; blocks = F.most-blocks } in
-      let M = subst (Small t'.place) (sym m) (small-most (most_from t.most) t'.place (figured n c 0) S j i) in
+      let M = subst (Small t'.place) (ap (λ (x : ℕ). most_of (most_from t.most) x (figured n c 0)) p ∙ sym m) (small-most (most_from t.most) t'.place (figured n c 0) S j i) in
       record {
         blocks = omega (arith, F.blocks, p, ap (λ (s : Sums). s.blocks) q);
         copies = omega (arith, F.copies, p, ap (λ (s : Sums). s.copies) q);

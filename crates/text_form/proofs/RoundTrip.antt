@@ -16,7 +16,7 @@ use Rattle.digits.proofs.Decimals.{decimal-one, decimal-more}
 use Rattle.decimal.specs.Writing.{layout, lines_text, sheet_text, total}
 use Rattle.decimal.proofs.All.{AllOf, all_take, all_drop}
 use Rattle.decimal.proofs.Layouts.{Filled, layout-total, layout-filled}
-use Rattle.decimal.proofs.Rooms.{Words}
+use Rattle.decimal.proofs.All.{Words}
 use Rattle.text_form.specs.Reading.{most_words, next, Mode, between, within, Read, value, pending, outside_word, in_comment, flush}
 use Rattle.text_form.specs.Reading.{blank, full, line_byte, text_byte, unless_faulty, step, start, read_on, worded, ended, read_words}
 use Rattle.formats.specs.File.{bytes_of}

@@ -5,37 +5,24 @@
 ghost use Rattle.std.specs.Prelude.{◌≡◌};
 ghost use Rattle.text_form.specs.Reading.{next, blank};
 
-use digits::SPACE;
-
-// The most words of a text.
+/// The most words of a text.
 pub const MOST_WORDS: usize = 262144;
 
 // Lines and columns are counted so far.
 const MOST_COUNT: usize = 999999999;
 
-const TAB: u8 = 9;
-
-const CARRIAGE_RETURN: u8 = 13;
-
-// One more, as far as is counted.
-pub fn counted(n: usize) -> usize
-    ensures { result ≡ next n }
+/// One more, as far as lines and columns are counted.
+#[tactic(auto, unfolding(crate::specs::Reading::next))]
+pub fn counted(count: usize) -> usize
+    ensures { result ≡ next count }
 {
-    if n < MOST_COUNT {
-        return n + 1;
-    }
-    n
+    if count < MOST_COUNT { count + 1 } else { count }
 }
 
-// Whether a byte parts words.
-pub fn is_blank(b: u8) -> bool
-    ensures { result ≡ blank b }
+/// Whether a byte parts words.
+#[tactic(auto, unfolding(crate::specs::Reading::blank))]
+pub fn is_blank(byte: u8) -> bool
+    ensures { result ≡ blank byte }
 {
-    if b == SPACE {
-        return true;
-    }
-    if b == TAB {
-        return true;
-    }
-    b == CARRIAGE_RETURN
+    matches!(byte, b' ' | b'\t' | b'\r')
 }

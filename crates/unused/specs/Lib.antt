@@ -1,2 +1,2 @@
--- rows of marks: marked, marked_blocks, First, Unmarked; the blocks of copies: blocks_at, Blocks
+-- rows of marks: Marks, marked, marked_blocks, First, Unmarked; the blocks of copies: blocks_at, Blocks
 pub mod Marks

@@ -1,24 +1,27 @@
--- A row of marks, a byte for each block, and the blocks that it names.
+-- A row of marks, one for each block, and the blocks that it names.
 -- Rests on base Lists, formats Limits and Words.
-use Rattle.std.specs.Prelude.{◌≡◌, Bool, ◌&&◌, not, List, map, ℕ, ◌+◌, ◌-◌, ◌*◌, ◌≤◌, leb, eqb, length, get_or}
+use Rattle.std.specs.Prelude.{◌≡◌, Bool, false, ◌&&◌, not, List, map, ℕ, ◌+◌, ◌-◌, ◌*◌, ◌≤◌, leb, length, get_or}
 use Rattle.base.specs.Lists.{keep, from, member}
 use Rattle.formats.specs.Limits.{most_blocks}
 use Rattle.formats.specs.Words.{field}
 
+abbrev pub Marks : Type 0
+Marks = List Bool
+
 -- a block's mark
-unfoldable pub marked : List ℕ → ℕ → Bool
-marked ms v = not (eqb (get_or ms (v - 1) 0) 0)
+unfoldable pub marked : Marks → ℕ → Bool
+marked ms v = get_or ms (v - 1) false
 
 -- the marked blocks, rising
-unfoldable pub marked_blocks : List ℕ → List ℕ
+unfoldable pub marked_blocks : Marks → List ℕ
 marked_blocks ms = keep (marked ms) (from 1 most_blocks)
 
 -- the blocks 1 to n are marked, and no other
-pub record First (n : ℕ) (ms : List ℕ) : Type 0 where
+pub record First (n : ℕ) (ms : Marks) : Type 0 where
   pub is : (v : ℕ) → 1 ≤ v → v ≤ most_blocks → marked ms v ≡ leb v n
 
 -- some blocks lost their marks, and no other
-pub record Unmarked (bs old new : List ℕ) : Type 0 where
+pub record Unmarked (bs : List ℕ) (old new : Marks) : Type 0 where
   pub is : (v : ℕ) → 1 ≤ v → v ≤ most_blocks → marked new v ≡ (marked old v && not (member v bs))
 
 -- the blocks of c copies, whose records stand from the word `at` on

@@ -7,81 +7,85 @@ ghost use Rattle.base.specs.Checks.{outside};
 ghost use Rattle.formats.specs.Limits.{word_limit};
 ghost use Rattle.formats.specs.Words.{word, field as field_at};
 
-// The least words of a sheet.
+/// The least words of a sheet.
 pub const LEAST_WORDS: usize = 3;
 
-// "Limits: N 2 to 128, E 1 to 512, B 0 to 500"
+/// The least blocks of a graph sheet.
 pub const LEAST_BLOCKS: usize = 2;
 
+/// Its most blocks.
 pub const MOST_BLOCKS: usize = 128;
 
+/// The least edges of a graph sheet.
 pub const LEAST_EDGES: usize = 1;
 
+/// Its most edges.
 pub const MOST_EDGES: usize = 512;
 
+/// The largest budget of either kind of sheet, in cycles.
 pub const MOST_BUDGET: usize = 500;
 
-// "1 to 4 strictly rising budgets"
+/// The least budgets of either kind of sheet.
 pub const LEAST_BUDGETS: usize = 1;
 
+/// Their most.
 pub const MOST_BUDGETS: usize = 4;
 
-// N × (B + 1) at most: the cells of the largest work area.
+/// The cells of the largest work area, one for each block and number of cycles.
 pub const MOST_CELLS: usize = MOST_BLOCKS * (MOST_BUDGET + 1);
 
-// "C 2 to 4,096, F 1 to 8,192"
+/// The least copies of a bounded sheet.
 pub const LEAST_COPIES: usize = 2;
 
+/// Its most copies.
 pub const MOST_COPIES: usize = 4096;
 
+/// The least edges of a bounded sheet.
 pub const LEAST_BOUNDED_EDGES: usize = 1;
 
+/// Its most edges.
 pub const MOST_BOUNDED_EDGES: usize = 8192;
 
-// At most so many records of operations, and the largest operation.
+/// The most operation records of an operation sheet.
 pub const MOST_OPERATIONS: usize = 4096;
 
+/// The largest operation.
 pub const MOST_OPERATION: usize = 15;
 
-// A number outside the limits lo to hi.
-pub fn is_outside(lo: usize, hi: usize, n: usize) -> bool
-    ensures { result ≡ outside lo hi n }
+/// A number outside the limits `least` to `most`.
+pub fn is_outside(least: usize, most: usize, number: usize) -> bool
+    ensures { result ≡ outside least most number }
 {
-    if n < lo {
-        return true;
-    }
-    hi < n
+    // `contains` of a range says the same, and wants a proof of its own.
+    number < least || most < number
 }
 
-// One number outside its limits, or another outside its own.
+/// One number outside its limits, or another outside its own.
 pub fn is_either_outside(
-    lo: usize,
-    hi: usize,
-    n: usize,
     least: usize,
     most: usize,
-    m: usize,
+    number: usize,
+    other_least: usize,
+    other_most: usize,
+    other: usize,
 ) -> bool
-    ensures { result ≡ (outside lo hi n || outside least most m) }
+    ensures { result ≡ (outside least most number || outside other_least other_most other) }
 {
-    if is_outside(lo, hi, n) {
-        return true;
-    }
-    is_outside(least, most, m)
+    is_outside(least, most, number) || is_outside(other_least, other_most, other)
 }
 
-// One word of a row.
-pub fn word_at(s: &[u16], i: usize) -> usize
-    requires { i < length s.now }
-    ensures { (result ≡ word s.now i) × (result < word_limit) }
+/// One word of a row.
+pub fn word_at(words: &[u16], place: usize) -> usize
+    requires { place < length words.now }
+    ensures { (result ≡ word words.now place) × (result < word_limit) }
 {
-    s[i] as usize
+    words[place] as usize
 }
 
-// Word k, counted from 0, of record i, where records of `width` words stand from the word `base` on, numbered from 1.
-pub fn field(s: &[u16], base: usize, width: usize, i: usize, k: usize) -> usize
-    requires { (1 ≤ i) × (k < width) × (base + width * i ≤ length s.now) }
-    ensures { (result ≡ field_at s.now base width i k) × (result < word_limit) }
+/// Word `place`, counted from 0, of record `index`, where records of `width` words stand from the word `base` on, numbered from 1.
+pub fn field(words: &[u16], base: usize, width: usize, index: usize, place: usize) -> usize
+    requires { (1 ≤ index) × (place < width) × (base + width * index ≤ length words.now) }
+    ensures { (result ≡ field_at words.now base width index place) × (result < word_limit) }
 {
-    word_at(s, base + width * (i - 1) + k)
+    word_at(words, base + width * (index - 1) + place)
 }

@@ -1,32 +1,30 @@
 -- The records of the copies, put copy by copy: what is put, then the records of the copies left, are the records of all.
 -- Rests on formats Reading, tables Rows and Rest, put_words Put, chain_records Marked.
-use mathlib.Core.Path.{◌≡◌, refl, sym, ap, ap₂, ◌∙◌}
-use mathlib.Core.List.{List, [], ◌∷◌, ◌++◌, map}
-use Prim.Native.Nat.{ℕ, suc, ◌+◌, ◌*◌, ◌≤◌, ◌<◌}
+use mathlib.Core.Path.{◌≡◌, refl, sym, ap, ap₂, subst, ◌∙◌}
+use mathlib.Core.Bool.{true}
+use mathlib.Core.List.{List, [], ◌∷◌, ◌++◌, map, Memᴰ}
+use Prim.Native.Nat.{ℕ, suc, ◌+◌, ◌*◌, ◌/◌, ◌%◌, ◌≤◌, ◌<◌}
 use native.Mathlib.Omega.{arith}
 use lib.ListN.{length, length-append, length-map}
 use Rattle.base.specs.Copy.{Copy, copy_of}
-use Rattle.base.specs.Cells.{cell_count}
+use Rattle.base.specs.Cells.{cell_count, is_set}
+use Rattle.base.specs.Lists.{from}
+use Rattle.base.proofs.Cells.{one_cell}
+use Rattle.base.proofs.Lists.{keep-e, from-e}
 use Rattle.theory.specs.Completions.{Graph}
-use Rattle.formats.specs.Limits.{most_cells, most_bounded_edges}
+use Rattle.formats.specs.Limits.{most_blocks, most_budget, most_cells, most_bounded_edges}
 use Rattle.formats.specs.BoundedSheet.{Row, first_edge, edge_records, copy_words, edge_words, record_words}
 use Rattle.formats.proofs.Reading.{copy_words-length, edge_records-length, edge_words-length}
 use Rattle.calls.specs.SheetGraph.{row_of, rows_of}
-use Rattle.tables.specs.Tables.{marked_copies}
+use Rattle.tables.specs.Tables.{marked, marked_copies}
 use Rattle.tables.specs.Rows.{edges_of}
-use Rattle.tables.specs.Scan.{IsCell, NextMarked}
+use Rattle.tables.specs.Scan.{IsCell, set_from, copy_at}
 use Rattle.tables.proofs.Rows.{row-length, edges_are}
-use Rattle.tables.proofs.Rest.{rest, Scan, scan-of, AtCopy, at_first, at_here, at_next, at-end}
-use Rattle.graph_row.specs.GraphRow.{blocks_in, graph_in, Flat}
+use Rattle.tables.proofs.Places.{code-cell, cell-block, few-cells, count_code}
+use Rattle.tables.proofs.Rest.{mark_of}
+use Rattle.tables.proofs.SetCells.{copies-set}
 use Rattle.put_words.specs.Put.{put_words}
-use Rattle.chain_records.specs.Marked.{Marked}
 use Rattle.put_words.proofs.Put.{put-none, put-length, put-more}
-
--- the cells of the blocks of a graph row
-pub scan-in : {row : List ℕ} {b : ℕ} {marks : List ℕ} {n size : ℕ} → Flat row → Marked (graph_in row) (blocks_in row) b marks
-    → n ≡ blocks_in row → (size ≡ cell_count n b) × (size ≤ most_cells) → Scan (blocks_in row) b marks size
-scan-in {b = b} F M e k =
-    scan-of (F.blocks.1, M.budget) M.room (k.0 ∙ ap (λ (x : ℕ). cell_count x b) e, k.1)
 
 -- the words that a row adds, where its edges are numbered from e
 unfoldable pub copy_record : ℕ → Row → List ℕ
@@ -44,96 +42,104 @@ module _ (one : ℕ → Row → List ℕ) where
     abbrev cs : List Copy
     cs = marked_copies n b marks
 
-    -- the words of the copies from the cell i on, and of all
-    abbrev left : ℕ → ℕ → List ℕ
-    left e i = records_from e (map (row_of g cs) (rest n b marks i))
+    -- the words of the copies at some cells, and of all
+    abbrev left : ℕ → List ℕ → List ℕ
+    left e xs = records_from e (map (row_of g cs) (map (copy_at b) xs))
 
     abbrev all : List ℕ
     all = records_from 1 (rows_of g cs)
 
-    -- A LOOP over the copies: the next one is at the cell i, its edges are numbered from e, and its words go to at
-    pub record Written (size : ℕ) (o₀ : List ℕ) (at₀ : ℕ) (o : List ℕ) (at e i : ℕ) : Type 0 where
-      pub here : AtCopy n b marks size i
+    -- A LOOP over the copies: those at the cells xs are left, their edges are numbered from e, and their words go to at
+    pub record Written (o₀ : List ℕ) (at₀ : ℕ) (o : List ℕ) (at e : ℕ) (xs : List ℕ) : Type 0 where
+      pub here : (x : ℕ) → Memᴰ x xs → (x < cell_count n b) × (is_set marks x ≡ true)
       pub few : edges_of g cs ≤ most_bounded_edges
       pub least : 1 ≤ e
       pub same : length o ≡ length o₀
-      pub count : e + edges_of g (rest n b marks i) ≡ suc (edges_of g cs)
-      pub room : at + length (left e i) ≤ length o
-      pub words : put_words o at (left e i) ≡ put_words o₀ at₀ all
+      pub count : e + edges_of g (map (copy_at b) xs) ≡ suc (edges_of g cs)
+      pub room : at + length (left e xs) ≤ length o
+      pub words : put_words o at (left e xs) ≡ put_words o₀ at₀ all
 
-  module _ {g : Graph} {n b : ℕ} {marks : List ℕ} {size : ℕ} where
-    pub written_start : Scan n b marks size → {r : ℕ} → NextMarked marks size 0 r
-        → edges_of g (marked_copies n b marks) ≤ most_bounded_edges → (o : List ℕ) (at₀ at : ℕ) → at ≡ at₀
-        → at₀ + length (all g n b marks) ≤ length o → Written g n b marks size o at₀ o at 1 r
-    unfolding rows_of
-    written_start S {r} X f o at₀ at z l =
-        let k = at_first S X in
-        let q : left g n b marks 1 r ≡ all g n b marks
-        = ap (λ (ds : List Copy). records_from 1 (map (row_of g (marked_copies n b marks)) ds)) (sym k.1) in
+  module _ {g : Graph} {n b : ℕ} {marks : List ℕ} where
+    pub written_start : {xs : List ℕ} → xs ≡ set_from marks 0 (cell_count n b) → edges_of g (marked_copies n b marks) ≤ most_bounded_edges
+        → (o : List ℕ) (at₀ at : ℕ) → at ≡ at₀ → at₀ + length (all g n b marks) ≤ length o → Written g n b marks o at₀ o at 1 xs
+    unfolding rows_of set_from
+    written_start {xs} s f o at₀ at z l =
+        let k : marked_copies n b marks ≡ map (copy_at b) xs = copies-set n b marks ∙ ap (map (copy_at b)) (sym s) in
+        let q : left g n b marks 1 xs ≡ all g n b marks
+        = ap (λ (ds : List Copy). records_from 1 (map (row_of g (marked_copies n b marks)) ds)) (sym k) in
         record {
-          here = k.0;
+          here = λ x m.
+              let i = keep-e (is_set marks) (from 0 (cell_count n b)) (subst (Memᴰ x) s m) in
+              (omega (arith, (from-e (cell_count n b) 0 x i.0).1), i.1);
           few = f;
           least = omega arith;
           same = refl;
-          count = omega (arith, ap (edges_of g) k.1);
+          count = omega (arith, ap (edges_of g) k);
           room = omega (arith, ap length q);
           words = ap₂ (put_words o) z q;
         }
 
-    module _ {o₀ : List ℕ} {at₀ : ℕ} {o : List ℕ} {at e i : ℕ} (W : Written g n b marks size o₀ at₀ o at e i) where
+    module _ {o₀ : List ℕ} {at₀ : ℕ} {o : List ℕ} {at e x : ℕ} {xs : List ℕ} (W : Written g n b marks o₀ at₀ o at e (x ∷ xs)) where
+      pub here-few : (n ≤ most_blocks) × (b ≤ most_budget) → x ≤ most_cells
+      here-few s = omega (arith, (W.here x (Memᴰ.head refl)).0, few-cells n b s.0 s.1, count_code n b)
+
       -- one copy, that of the block v with the low l
-      module _ {v l : ℕ} (h : i < size) (C : IsCell b i v l) where
+      module _ {v l : ℕ} (C : IsCell b x v l) where
+        pub here-fits : (1 ≤ v) × ((v ≤ n) × (l ≤ b))
+        here-fits = (C.block, (cell-block n b x v l C (W.here x (Memᴰ.head refl)).0, C.low))
+
+        pub here-marked : marked b marks v l ≡ true
+        here-marked = mark_of n b marks x v l C ∙ (W.here x (Memᴰ.head refl)).1
+
+        copy-is : copy_at b x ≡ copy_of v l
+        copy-is =
+            let D = code-cell b x in
+            let q = one_cell b (x / (b + 1) + 1) (x % (b + 1)) v l D.block C.block D.low C.low (sym D.place ∙ C.place) in
+            ap₂ copy_of q.0 q.1
+
         abbrev record₁ : List ℕ
         record₁ = one e (row_of g (marked_copies n b marks) (copy_of v l))
 
         abbrev behind : ℕ
         behind = e + length (g.next v)
 
-        split : (r : ℕ) → rest n b marks i ≡ copy_of v l ∷ rest n b marks r
-            → left g n b marks e i ≡ record₁ ++ left g n b marks behind r
+        split : left g n b marks e (x ∷ xs) ≡ record₁ ++ left g n b marks behind xs
         unfolding records_from
-        split r k =
-            ap (λ (ds : List Copy). records_from e (map (row_of g (marked_copies n b marks)) ds)) k
-            ∙ ap (λ (d : ℕ). record₁ ++ left g n b marks (e + d) r) (row-length g (marked_copies n b marks) (copy_of v l))
+        split =
+            ap (λ (c : Copy). records_from e (map (row_of g (marked_copies n b marks)) (c ∷ map (copy_at b) xs))) copy-is
+            ∙ ap (λ (d : ℕ). record₁ ++ left g n b marks (e + d) xs) (row-length g (marked_copies n b marks) (copy_of v l))
 
-        edges-on : (r : ℕ) → rest n b marks i ≡ copy_of v l ∷ rest n b marks r
-            → edges_of g (rest n b marks i) ≡ length (g.next v) + edges_of g (rest n b marks r)
+        edges-on : edges_of g (map (copy_at b) (x ∷ xs)) ≡ length (g.next v) + edges_of g (map (copy_at b) xs)
         unfolding edges_of
-        edges-on r k = ap (edges_of g) k
+        edges-on = ap (λ (c : Copy). edges_of g (c ∷ map (copy_at b) xs)) copy-is
 
         pub written-fits : (at + length record₁ ≤ length o) × (behind ≤ suc most_bounded_edges)
         written-fits =
-            let k = at_here W.here h C in
-            let p = length-append record₁ (left g n b marks behind (suc i)) in
-            (omega (arith, W.room, ap length (split (suc i) k)), omega (arith, W.few, W.count, edges-on (suc i) k))
+            let p = length-append record₁ (left g n b marks behind xs) in
+            (omega (arith, W.room, ap length split), omega (arith, W.few, W.count, edges-on))
 
-        pub written_on : {r : ℕ} → NextMarked marks size (i + 1) r → {o' : List ℕ} {at' e' : ℕ} → o' ≡ put_words o at record₁
-            → at' ≡ at + length record₁ → e' ≡ behind → Written g n b marks size o₀ at₀ o' at' e' r
-        written_on {r} X {o'} {at'} {e'} p q s =
-            let k = at_next W.here h C X in
-            let f = split r k.1 in
-            let u = left g n b marks behind r in
-            let y : left g n b marks e' r ≡ u = ap (λ (e : ℕ). left g n b marks e r) s in
+        pub written_on : {o' : List ℕ} {at' e' : ℕ} → o' ≡ put_words o at record₁ → at' ≡ at + length record₁ → e' ≡ behind
+            → Written g n b marks o₀ at₀ o' at' e' xs
+        written_on {o'} {at'} {e'} p q s =
+            let u = left g n b marks behind xs in
+            let y : left g n b marks e' xs ≡ u = ap (λ (e : ℕ). left g n b marks e xs) s in
             let a = length-append record₁ u in
             let z : length o' ≡ length o = ap length p ∙ put-length o at record₁ written-fits.0 in
             record {
-              here = k.0;
+              here = λ x m. W.here x (Memᴰ.tail m);
               few = W.few;
               least = omega (arith, W.least);
               same = z ∙ W.same;
-              count = omega (arith, W.count, edges-on r k.1);
-              room = omega (arith, W.room, ap length f, ap length y);
+              count = omega (arith, W.count, edges-on);
+              room = omega (arith, W.room, ap length split, ap length y);
               words =
                   ap₂ (λ (o u : List ℕ). put_words o at' u) p y ∙ put-more o at record₁ u at' (omega (arith, W.room)) q
-                  ∙ ap (put_words o at) (sym f) ∙ W.words;
+                  ∙ ap (put_words o at) (sym split) ∙ W.words;
             }
 
-      pub written-end : size ≤ i → o ≡ put_words o₀ at₀ (all g n b marks)
-      unfolding records_from
-      written-end h =
-          sym (put-none o at)
-          ∙ ap (λ (ds : List Copy). put_words o at (records_from e (map (row_of g (marked_copies n b marks)) ds))) (sym (at-end W.here h))
-          ∙ W.words
+    pub written-end : {o₀ : List ℕ} {at₀ : ℕ} {o : List ℕ} {at e : ℕ} → Written g n b marks o₀ at₀ o at e [] → o ≡ put_words o₀ at₀ (all g n b marks)
+    unfolding records_from
+    written-end {o = o} {at} W = sym (put-none o at) ∙ W.words
 
 -- THE TWO KINDS OF RECORDS
 pub copies-are : (e : ℕ) (rs : List Row) → copy_words e rs ≡ records_from copy_record e rs
@@ -163,10 +169,6 @@ module _ (g : Graph) (cs : List Copy) where
   pub edges_fit : (at n : ℕ) → at + 2 * edges_of g cs ≤ n → at + length (records_from edge_record 1 (rows_of g cs)) ≤ n
   edges_fit at n l = omega (arith, ap length (chains-are 1 (rows_of g cs)), edges-length)
 
-  pub records-fit : (at n : ℕ) → at + length (record_words (rows_of g cs)) ≤ n → at + 3 * length cs + 2 * edges_of g cs ≤ n
-  records-fit at n l =
-      omega (arith, length-append (copy_words 1 (rows_of g cs)) (edge_words 1 (rows_of g cs)), copies_length, edges-length)
-
   -- one copy's words
   pub copy-put : (o : List ℕ) (at e v l : ℕ) {f : ℕ} {o' : List ℕ} → o' ≡ put_words o at (v ∷ l ∷ f ∷ [])
       → f ≡ first_edge e (row_of g cs (copy_of v l)).target_words → o' ≡ put_words o at (copy_record e (row_of g cs (copy_of v l)))
@@ -182,10 +184,7 @@ module _ (g : Graph) (cs : List Copy) where
       ∙ put-more o at (copy_words 1 (rows_of g cs)) (edge_words 1 (rows_of g cs)) (at + 3 * n) l (omega (arith, copies_length))
 
 -- the words of the copy at a cell
-pub edge-length : {g : Graph} {n b : ℕ} {marks : List ℕ} {size : ℕ} {o₀ : List ℕ} {at₀ : ℕ} {o : List ℕ} {at e i v l : ℕ}
-    → Written edge_record g n b marks size o₀ at₀ o at e i → IsCell b i v l
-    → length (edge_record e (row_of g (marked_copies n b marks) (copy_of v l))) ≡ 2 * length (g.next v)
+pub edge-length : (g : Graph) (cs : List Copy) (e v l : ℕ) → length (edge_record e (row_of g cs (copy_of v l))) ≡ 2 * length (g.next v)
 unfolding edge_record
-edge-length {g} {n} {b} {marks} {e = e} {v = v} {l = l} W C =
-    let cs = marked_copies n b marks in
+edge-length g cs e v l =
     edge_records-length e (row_of g cs (copy_of v l)).target_words ∙ ap (λ (n : ℕ). 2 * n) (row-length g cs (copy_of v l))

@@ -1,85 +1,50 @@
-// The records of the bounded sheet, for the marked copies in order. Below the public calls.
-// Rests on graph_row, tables, put_words, chain_records.
+// The records of the bounded sheet, for the copies that were found, in order. Below the public calls.
+// Rests on tables, put_words, chain_records.
 #![tactic(auto)]
 
 ghost use Rattle.std.specs.Prelude.{◌≡◌, ◌+◌, ◌*◌, ◌≤◌, length};
-ghost use Rattle.theory.specs.Completions.{low_of};
-ghost use Rattle.formats.specs.Limits.{most_copies, most_bounded_edges};
 ghost use Rattle.formats.specs.BoundedSheet.{copy_words, edge_words, record_words};
-ghost use Rattle.tables.specs.Tables.{marked_copies, Numbers};
-ghost use Rattle.tables.specs.Rows.{edges_of};
-ghost use Rattle.graph_row.specs.GraphRow.{blocks_in, graph_in, Flat};
 ghost use Rattle.put_words.specs.Put.{put_words};
-ghost use Rattle.chain_records.specs.Marked.{Marked};
 ghost use Rattle.write.specs.Rows.{rows_in};
 
-use chain_records::{first_edge, write_chain};
-use graph_row::{blocks_in, degree_in};
+use chain_records::{Found, first_edge};
 use put_words::put_three;
-use tables::{cell_at, cell_count, next_marked};
+use tables::{cell_at, marked_cells};
 
 // Puts the copy records from the word `at` on.
-fn write_copies(row: &[u16], marks: &[u8], out: &mut [u16], b: usize, at: usize)
-    requires flat { Flat row.now }
-    requires marked { Marked (graph_in row.now) (blocks_in row.now) b marks.now }
-    requires marks_bound { edges_of (graph_in row.now) (marked_copies (blocks_in row.now) b marks.now) ≤ most_bounded_edges }
-    requires marks_in_bounds { at + 3 * length (marked_copies (blocks_in row.now) b marks.now) ≤ length out.old }
-    ensures { out.new ≡ put_words out.old at (copy_words 1 (rows_in row.now b marks.now)) }
+fn write_copies(found: &Found, output: &mut [u16], at: usize)
+    requires { at + 3 * found.now.copies ≤ length output.old }
+    ensures { output.new ≡ put_words output.old at (copy_words 1 (rows_in found.now)) }
 {
-    let n = blocks_in(row);
-    let size = cell_count(n, b);
-    let mut p = at;
-    let mut e = 1;
-    let mut i = next_marked(marks, size, 0);
-    while i < size {
-        let c = cell_at(b, i);
-        let d = degree_in(row, c.block);
-        let first = first_edge(e, d);
-        put_three(out, p, c.block, c.low, first);
-        p += 3;
-        e += d;
-        i = next_marked(marks, size, i + 1);
+    let mut place = at;
+    let mut edge = 1;
+    for index in marked_cells(found.marks, found.layout) {
+        let copy = cell_at(found.layout, index);
+        let degree = found.graph.successors(copy.block).len();
+        let first = first_edge(edge, degree);
+        put_three(output, place, copy.block, copy.low, first);
+        place += 3;
+        edge += degree;
     }
 }
 
 // Puts the edge records from the word `at` on.
-fn write_edges(row: &[u16], marks: &[u8], numbers: &[u16], out: &mut [u16], b: usize, at: usize)
-    requires flat { Flat row.now }
-    requires marked { Marked (graph_in row.now) (blocks_in row.now) b marks.now }
-    requires numbers { Numbers (low_of (graph_in row.now)) (blocks_in row.now) b marks.now numbers.now }
-    requires marks_bound { edges_of (graph_in row.now) (marked_copies (blocks_in row.now) b marks.now) ≤ most_bounded_edges }
-    requires marks_in_bounds { at + 2 * edges_of (graph_in row.now) (marked_copies (blocks_in row.now) b marks.now) ≤ length out.old }
-    ensures { out.new ≡ put_words out.old at (edge_words 1 (rows_in row.now b marks.now)) }
+fn write_edges(found: &Found, output: &mut [u16], at: usize)
+    requires { at + 2 * found.now.edges ≤ length output.old }
+    ensures { output.new ≡ put_words output.old at (edge_words 1 (rows_in found.now)) }
 {
-    let n = blocks_in(row);
-    let size = cell_count(n, b);
-    let mut e = 1;
-    let mut i = next_marked(marks, size, 0);
-    while i < size {
-        let c = cell_at(b, i);
-        e = write_chain(row, marks, numbers, out, b, c.block, c.low, at, e);
-        i = next_marked(marks, size, i + 1);
+    let mut edge = 1;
+    for index in marked_cells(found.marks, found.layout) {
+        let copy = cell_at(found.layout, index);
+        edge = found.write_chain(output, at, copy.block, copy.low, edge);
     }
 }
 
-// Writes the records of the marked copies, which are counted, from the word `at` on.
-pub fn write_records(
-    row: &[u16],
-    marks: &[u8],
-    numbers: &[u16],
-    out: &mut [u16],
-    b: usize,
-    at: usize,
-    copies: usize,
-)
-    requires flat { Flat row.now }
-    requires marked { Marked (graph_in row.now) (blocks_in row.now) b marks.now }
-    requires numbers { Numbers (low_of (graph_in row.now)) (blocks_in row.now) b marks.now numbers.now }
-    requires copies_value { (copies ≡ length (marked_copies (blocks_in row.now) b marks.now)) × (copies ≤ most_copies) }
-    requires marks_bound { edges_of (graph_in row.now) (marked_copies (blocks_in row.now) b marks.now) ≤ most_bounded_edges }
-    requires marks_in_bounds { at + length (record_words (rows_in row.now b marks.now)) ≤ length out.old }
-    ensures { out.new ≡ put_words out.old at (record_words (rows_in row.now b marks.now)) }
+/// Puts the copy records from the word `at` on, and behind them the edge records.
+pub fn write_records(found: &Found, output: &mut [u16], at: usize)
+    requires { at + 3 * found.now.copies + 2 * found.now.edges ≤ length output.old }
+    ensures { output.new ≡ put_words output.old at (record_words (rows_in found.now)) }
 {
-    write_copies(row, marks, out, b, at);
-    write_edges(row, marks, numbers, out, b, at + 3 * copies);
+    write_copies(found, output, at);
+    write_edges(found, output, at + 3 * found.copies);
 }

@@ -1,31 +1,34 @@
 -- The copy behind the start copies: its block, its low, its chain; then the block of the copy behind it.
-use Rattle.std.proofs.Common.{sym, ◌∙◌, arith}
+use Rattle.std.proofs.Common.{◌≡◌, sym, ◌∙◌, ◌+◌, arith}
 use Rattle.bounded_check.proofs.Exit.{starts-alone, other_block, exit-low, exit-chain, one-exit, second-tells}
 use Rattle.bounded_check.proofs.bad_exits.Goals as goal
 
-pub returns-then-k-c : goal.returns-then-k-c
-returns-then-k-c c = starts-alone _ _ _ c.requires.k_value c.requires.k_value_2.0 c.requires.k_value_2.1 c.if-k-c.true
+pub returns-then-starts-records : goal.returns-then-starts-records
+returns-then-starts-records c = starts-alone _ _ _ c.requires.kept c.requires.starts.0 c.requires.starts.1 c.if-starts-records.true
 
-pub returns-then-field-ne2 : goal.returns-then-field-ne2
-returns-then-field-ne2 c = other_block _ _ _ c.requires.k_value c.requires.k_value_2.0 c.requires.k_value_2.1 c.if-k-c.false (λ e. c.if-field-ne2.true (c.field.ensures.0 ∙ e))
+pub returns-then-block-ne-EXIT_BLOCK : goal.returns-then-block-ne-EXIT_BLOCK
+returns-then-block-ne-EXIT_BLOCK c =
+    other_block _ _ _ c.requires.kept c.requires.starts.0 c.requires.starts.1 c.if-starts-records.false
+    (λ e. c.if-block-ne-EXIT_BLOCK.true (c.block.ensures.0 ∙ e))
 
-pub returns-then-field-ne0 : goal.returns-then-field-ne0
-returns-then-field-ne0 c =
-    exit-low _ _ _ c.requires.k_value c.requires.k_value_2.0 c.requires.k_value_2.1 c.if-k-c.false (sym c.field.ensures.0 ∙ c.if-field-ne2.false)
-    (λ e. c.if-field-ne0.true (c.field-2.ensures.0 ∙ e))
+pub returns-then-low-ne0 : goal.returns-then-low-ne0
+returns-then-low-ne0 c =
+    exit-low _ _ _ c.requires.kept c.requires.starts.0 c.requires.starts.1 c.if-starts-records.false (sym c.block.ensures.0 ∙ c.if-block-ne-EXIT_BLOCK.false)
+    (λ e. c.if-low-ne0.true (c.low.ensures.0 ∙ e))
 
-pub returns-then-field-ne0-2 : goal.returns-then-field-ne0-2
-returns-then-field-ne0-2 c =
-    exit-chain _ _ _ c.requires.k_value c.requires.k_value_2.0 c.requires.k_value_2.1 c.if-k-c.false (sym c.field.ensures.0 ∙ c.if-field-ne2.false)
-    (sym c.field-2.ensures.0 ∙ c.if-field-ne0.false) (λ e. c.if-field-ne0-2.true (c.field-3.ensures.0 ∙ e))
+pub returns-then-first_edge-ne0 : goal.returns-then-first_edge-ne0
+returns-then-first_edge-ne0 c =
+    exit-chain _ _ _ c.requires.kept c.requires.starts.0 c.requires.starts.1 c.if-starts-records.false (sym c.block.ensures.0 ∙ c.if-block-ne-EXIT_BLOCK.false)
+    (sym c.low.ensures.0 ∙ c.if-low-ne0.false) (λ e. c.if-first_edge-ne0.true (c.first_edge.ensures.0 ∙ e))
 
-pub returns-then-k-c-2 : goal.returns-then-k-c-2
-returns-then-k-c-2 c =
-    one-exit _ _ _ c.requires.k_value c.requires.k_value_2.0 c.requires.k_value_2.1 c.if-k-c.false (sym c.field.ensures.0 ∙ c.if-field-ne2.false)
-    (sym c.field-2.ensures.0 ∙ c.if-field-ne0.false) (sym c.field-3.ensures.0 ∙ c.if-field-ne0-2.false) (λ l _. omega (arith, c.if-k-c-2.true))
+pub returns-then-exit-records : goal.returns-then-exit-records
+returns-then-exit-records c =
+    one-exit _ _ _ c.requires.kept c.requires.starts.0 c.requires.starts.1 c.if-starts-records.false (sym c.block.ensures.0 ∙ c.if-block-ne-EXIT_BLOCK.false)
+    (sym c.low.ensures.0 ∙ c.if-low-ne0.false) (sym c.first_edge.ensures.0 ∙ c.if-first_edge-ne0.false) (λ l _. omega (arith, c.if-exit-records.true))
 
 pub returns : goal.returns
 returns c =
-    second-tells _ _ _ c.requires.k_value c.requires.k_value_2.0 c.requires.k_value_2.1 c.if-k-c.false (sym c.field.ensures.0 ∙ c.if-field-ne2.false)
-    (sym c.field-2.ensures.0 ∙ c.if-field-ne0.false) (sym c.field-3.ensures.0 ∙ c.if-field-ne0-2.false)
-    (omega (arith, c.if-k-c-2.false, c.requires.k_value_2.1)) c.field-4.ensures.0
+    let z : c.args.starts + 1 + 1 ≡ c.args.starts + 2 = omega arith in
+    second-tells _ _ _ c.requires.kept c.requires.starts.0 c.requires.starts.1 c.if-starts-records.false (sym c.block.ensures.0 ∙ c.if-block-ne-EXIT_BLOCK.false)
+    (sym c.low.ensures.0 ∙ c.if-low-ne0.false) (sym c.first_edge.ensures.0 ∙ c.if-first_edge-ne0.false)
+    (omega (arith, c.if-exit-records.false, c.requires.starts.1)) (rw z at c.block-2.ensures.0)

@@ -1,51 +1,47 @@
 -- The sheet is refused, the budget's number is, or the walk sets out from the budget's entry, or is stopped where there is none.
-use Rattle.std.proofs.Common.{◌≡◌, sym, ◌∙◌, Bool, length}
-use Rattle.base.specs.Checks.{outside}
-use Rattle.formats.specs.Versions.{budgets_in}
-use Rattle.formats.specs.Rule11.{bounded_refusal}
-use Rattle.formats.proofs.RuleRead.{clauses}
-use Rattle.walk.specs.Walks.{walk_of}
-use Rattle.bounded_moves.proofs.Checked.{number_is, counted}
-use Rattle.bounded_starts.proofs.Answers.{rule-refused, number-refused, stops, goes}
+use Rattle.std.proofs.Common.{refl, sym, ap, ◌∙◌, arith}
+use Rattle.std.proofs.lemmas.Result.{err_from_is_err_and}
+use Rattle.base.proofs.Orders.{inside_of}
+use Rattle.base.specs.Refusals.{number_of}
+use Rattle.calls.specs.Moves.{Budgeted}
+use Rattle.bounded_check.specs.Ruled.{entry_word}
+use Rattle.bounded_starts.proofs.Answers.{Begins, rule-refused, number-refused, stops, goes}
 use Rattle.bounded_starts.proofs.start_bounded.Goals as goal
 
-pub returns-then-a-ne0 : goal.returns-then-a-ne0
-returns-then-a-ne0 c =
+pub returns-in_err-sheet : goal.returns-in_err-sheet
+returns-in_err-sheet c =
     let a = c.args in
-    let whole = rule-refused a.t.now (walk_of a.w) a.budget c.check_bounded-a.ensures c.if-a-ne0.true in record { answer_value = whole.0; walk_value = whole.1 }
-
-pub read_budgets-at-requires : goal.read_budgets-at-requires
-read_budgets-at-requires c =
-    let ok : bounded_refusal c.args.t.now ≡ 0 = sym c.check_bounded-a.ensures ∙ c.if-a-ne0.false in
-    (clauses _ ok).long
+    let p = err_from_is_err_and c.from_residual.result c.from_residual.ensures.1 in
+    let whole : (s : Budgeted) → Begins a.words.now s a.budget (number_of c.in_err-sheet.field-0.0) s
+    = λ s. rule-refused a.words.now s a.budget _ c.in_err-sheet.ensures.answer in
+    rw (p.1, p.2) (record { answer_value = λ s. (whole s).0; walk_value = λ s. (whole s).1 })
 
 pub returns-then-is_outside : goal.returns-then-is_outside
 returns-then-is_outside c =
-    let ok : bounded_refusal c.args.t.now ≡ 0 = sym c.check_bounded-a.ensures ∙ c.if-a-ne0.false in
-    let tested : (b : Bool) → c.is_outside.result ≡ b → outside 1 (length (budgets_in c.args.t.now)) c.args.budget ≡ b = λ b. number_is _ ok c.read_budgets-at.ensures.first_value.1 _ c.is_outside.ensures in
     let a = c.args in
-    let whole = number-refused a.t.now (walk_of a.w) a.budget ok (tested _ c.if-is_outside.true) in record { answer_value = whole.0; walk_value = whole.1 }
+    let w = c.in_ok-sheet.ensures.words in
+    let whole : (s : Budgeted) → Begins a.words.now s a.budget 33 s
+    = λ s. number-refused a.words.now s a.budget (rw w at c.in_ok-sheet.sheet.ruled) c.is_outside.ensures c.if-is_outside.true in
+    record { answer_value = λ s. (whole s).0; walk_value = λ s. (whole s).1 }
 
-pub entry-e-requires : goal.entry-e-requires
-entry-e-requires c =
-    let ok : bounded_refusal c.args.t.now ≡ 0 = sym c.check_bounded-a.ensures ∙ c.if-a-ne0.false in
-    let C = clauses _ ok in
-    record { least_words_in_bounds = (C.long, C.there); le_k = counted _ ok c.read_budgets-at.ensures.first_value.1 _ c.is_outside.ensures c.if-is_outside.false }
+pub entry-requires : goal.entry-requires
+entry-requires c = inside_of 1 _ _ (sym c.is_outside.ensures ∙ c.if-is_outside.false)
 
-pub returns-then-e-eq0 : goal.returns-then-e-eq0
-returns-then-e-eq0 c =
-    let ok : bounded_refusal c.args.t.now ≡ 0 = sym c.check_bounded-a.ensures ∙ c.if-a-ne0.false in
-    let tested : (b : Bool) → c.is_outside.result ≡ b → outside 1 (length (budgets_in c.args.t.now)) c.args.budget ≡ b = λ b. number_is _ ok c.read_budgets-at.ensures.first_value.1 _ c.is_outside.ensures in
+pub returns-in-None : goal.returns-in-None
+returns-in-None c =
     let a = c.args in
-    let whole = stops a.t.now (walk_of a.w) a.budget ok (tested _ c.if-is_outside.false)
-    c.entry-e.ensures.0 c.if-e-eq0.true
-    c.stop-after.ensures in record { answer_value = whole.0; walk_value = whole.1 }
+    let w = c.in_ok-sheet.ensures.words in
+    let e = ap entry_word (sym c.in-None.is) ∙ rw w at c.entry.ensures.word in
+    let whole = λ (s : Budgeted). stops a.words.now s a.budget (rw w at c.in_ok-sheet.sheet.ruled) c.is_outside.ensures c.if-is_outside.false
+    e refl c.stop.ensures in
+    record { answer_value = λ s. (whole s).0; walk_value = λ s. (whole s).1 }
 
-pub returns : goal.returns
-returns c =
-    let ok : bounded_refusal c.args.t.now ≡ 0 = sym c.check_bounded-a.ensures ∙ c.if-a-ne0.false in
-    let tested : (b : Bool) → c.is_outside.result ≡ b → outside 1 (length (budgets_in c.args.t.now)) c.args.budget ≡ b = λ b. number_is _ ok c.read_budgets-at.ensures.first_value.1 _ c.is_outside.ensures in
+pub returns-in-Some : goal.returns-in-Some
+returns-in-Some c =
     let a = c.args in
-    let whole = goes a.t.now (walk_of a.w) a.budget ok (tested _ c.if-is_outside.false)
-    c.entry-e.ensures.0 c.if-e-eq0.false
-    c.set_out-after.ensures in record { answer_value = whole.0; walk_value = whole.1 }
+    let w = c.in_ok-sheet.ensures.words in
+    let e = ap entry_word (sym c.in-Some.is) ∙ rw w at c.entry.ensures.word in
+    let p = rw c.in-Some.is at c.entry.ensures.copy in
+    let whole = λ (s : Budgeted). goes a.words.now s a.budget (rw w at c.in_ok-sheet.sheet.ruled) c.is_outside.ensures c.if-is_outside.false
+    e (λ z. omega (arith, p.0)) c.set_out.ensures in
+    record { answer_value = λ s. (whole s).0; walk_value = λ s. (whole s).1 }

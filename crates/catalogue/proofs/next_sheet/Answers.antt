@@ -15,9 +15,9 @@ returns c =
     record {
       ready_2 = (
         record { most = omega (arith, c.with_sheet-next.ensures.tallied.place, l); fits = c.with_sheet-next.ensures.fits; room = (search rules) ∙ R.room },
-        c.report_item-r.ensures.size_in_bounds.0,
+        c.report_item-said.ensures.size_in_bounds.0,
         omega (arith, c.with_sheet-next.ensures.tallied.place),
       );
-      next = next_of t _ c.report_item-r.result old _ _ c.with_sheet-next.ensures.tallied (omega (arith, inside))
-          (c.report_item-r.auto.marks ∙ part_length (t.place * most_blocks) most_blocks old inside) c.report_item-r.ensures.reports c.may_come-more.ensures;
+      next = next_of t _ c.report_item-said.result old _ _ c.with_sheet-next.ensures.tallied (omega (arith, inside))
+          (c.report_item-said.auto.marks ∙ part_length (t.place * most_blocks) most_blocks old inside) c.report_item-said.ensures.reports;
     }

@@ -1,44 +1,46 @@
 -- The conditions first, then the row's length, then the graph sheet.
-use Rattle.std.proofs.Common.{◌≡◌, sym, ap, subst, ◌∙◌, List, ℕ, arith}
-use Rattle.base.specs.Checks.{refused}
+use Rattle.std.proofs.Common.{sym, ap, ap₂, ◌∙◌, List, ℕ, arith}
+use Rattle.std.proofs.lemmas.Result.{err_from_is_err_and}
 use Rattle.formats.specs.GraphSheet.{Header, header, sheet_length}
-use Rattle.operation_sheet.specs.Operations.{operation_order, graph_words, Listed}
-use Rattle.operation_sheet.proofs.Conversion.{accepted}
+use Rattle.operation_sheet.specs.Operations.{graph_words}
 use Rattle.put_words.specs.Put.{put_words}
-use Rattle.convert_operations.proofs.Graph.{operations-refuse, row-refuses, row-serves}
+use Rattle.convert_operations.proofs.Graph.{read-listed, sheet-refuses, row-refuses, row-serves}
 use Rattle.convert_operations.proofs.convert_operations.Goals as goal
 
--- what the conditions leave, behind the header that was read
-read-listed : {w : List ℕ} {h : Header} → h ≡ header w → refused operation_order w ≡ 0 → Listed h w
-read-listed {w} q e = subst (λ (x : Header). Listed x w) (sym q) (accepted w e).listed
+pub returns-in_err-sheet-clause-value : goal.returns-in_err-sheet-clause-value
+returns-in_err-sheet-clause-value c =
+    let p = err_from_is_err_and c.from_residual.result c.from_residual.ensures.1 in
+    rw (p.1, p.2) (sheet-refuses c.args.words.now c.args.out.now _ c.in_err-sheet.ensures.answer).0
 
-pub returns-then-a-ne0 : goal.returns-then-a-ne0
-returns-then-a-ne0 c =
-    let whole = operations-refuse c.args.s.now c.args.out.now c.operation_answer-a.ensures c.if-a-ne0.true in
-    record { value = whole.0; out_after = whole.1 }
+pub returns-in_err-sheet-clause-out_after : goal.returns-in_err-sheet-clause-out_after
+returns-in_err-sheet-clause-out_after c =
+    (sheet-refuses c.args.words.now c.args.out.now _ c.in_err-sheet.ensures.answer).1
 
-pub read_header-h-requires : goal.read_header-h-requires
-read_header-h-requires c = (accepted _ (sym c.operation_answer-a.ensures ∙ c.if-a-ne0.false)).long
+pub returns-then-out-records-clause-value : goal.returns-then-out-records-clause-value
+returns-then-out-records-clause-value c =
+    let s = c.in_ok-sheet.ensures.words in
+    let q = c.in_ok-sheet.sheet.read ∙ ap header s in
+    (row-refuses c.args.words.now c.args.out.now (sym c.in_ok-sheet.ensures.answer) (omega (arith, c.if-out-records.true, ap sheet_length q))).0
 
-pub returns-then-out-at : goal.returns-then-out-at
-returns-then-out-at c =
-    let passed = sym c.operation_answer-a.ensures ∙ c.if-a-ne0.false in
-    let whole =
-    row-refuses c.args.s.now c.args.out.now passed (omega (arith, ap sheet_length c.read_header-h.ensures.edges_value)) in
-    record { value = whole.0; out_after = whole.1 }
+pub returns-then-out-records-clause-out_after : goal.returns-then-out-records-clause-out_after
+returns-then-out-records-clause-out_after c =
+    let s = c.in_ok-sheet.ensures.words in
+    let q = c.in_ok-sheet.sheet.read ∙ ap header s in
+    (row-refuses c.args.words.now c.args.out.now (sym c.in_ok-sheet.ensures.answer) (omega (arith, c.if-out-records.true, ap sheet_length q))).1
 
-pub put_graph-requires : goal.put_graph-requires
-put_graph-requires c = record {
-  listed = read-listed c.read_header-h.ensures.edges_value (sym c.operation_answer-a.ensures ∙ c.if-a-ne0.false);
-  m_in_bounds = c.if-out-at.false;
-}
+pub put_graph-requires-clause-listed : goal.put_graph-requires-clause-listed
+put_graph-requires-clause-listed c = read-listed c.in_ok-sheet.ensures.words c.in_ok-sheet.sheet.read c.in_ok-sheet.ensures.answer
 
-pub returns : goal.returns
-returns c =
-    let w = c.args.s.now in
-    let out = c.args.out.now in
-    let q = c.read_header-h.ensures.edges_value in
-    let put = c.put_graph.ensures ∙ ap (λ (h : Header). put_words out 0 (graph_words h w)) q in
-    let whole =
-    row-serves w out (sym c.operation_answer-a.ensures ∙ c.if-a-ne0.false) (omega (arith, c.if-out-at.false, ap sheet_length q)) put in
-    record { value = whole.0; out_after = whole.1 }
+pub returns-clause-value : goal.returns-clause-value
+returns-clause-value c =
+    let s = c.in_ok-sheet.ensures.words in
+    let q = c.in_ok-sheet.sheet.read ∙ ap header s in
+    let put = c.put_graph.ensures ∙ ap₂ (λ (h : Header) (w : List ℕ). put_words c.args.out.now 0 (graph_words h w)) q s in
+    (row-serves c.args.words.now c.args.out.now (sym c.in_ok-sheet.ensures.answer) (omega (arith, c.if-out-records.false, ap sheet_length q)) put).0
+
+pub returns-clause-out_after : goal.returns-clause-out_after
+returns-clause-out_after c =
+    let s = c.in_ok-sheet.ensures.words in
+    let q = c.in_ok-sheet.sheet.read ∙ ap header s in
+    let put = c.put_graph.ensures ∙ ap₂ (λ (h : Header) (w : List ℕ). put_words c.args.out.now 0 (graph_words h w)) q s in
+    (row-serves c.args.words.now c.args.out.now (sym c.in_ok-sheet.ensures.answer) (omega (arith, c.if-out-records.false, ap sheet_length q)) put).1

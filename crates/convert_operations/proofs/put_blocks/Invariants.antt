@@ -1,11 +1,7 @@
 -- Block by block: its cycles, its first edge, the two words.
-use Rattle.std.proofs.Common.{◌+◌, ◌-◌}
-use Rattle.formats.specs.GraphSheet.{header_of}
+use Rattle.graph_records.specs.Records.{header_in}
 use Rattle.convert_operations.proofs.Blocks.{Placing}
 use Rattle.convert_operations.proofs.put_blocks.Given as goal
 
-abbrev pub invariant-loop-v : goal.invariant-loop-v
-invariant-loop-v l = Placing (header_of l.at l.n l.m) l.s l.initial.out l.v l.out
-
-abbrev pub decreases-loop-v : goal.decreases-loop-v
-decreases-loop-v l = l.n + 1 - l.v
+abbrev pub invariant-loop-block : goal.invariant-loop-block
+invariant-loop-block l = Placing (header_in l.sheet.records) l.sheet.records.words.now l.initial.out l.block l.out

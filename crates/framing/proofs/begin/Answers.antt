@@ -6,14 +6,9 @@ use Rattle.framing.proofs.begin.Goals as goal
 
 pub returns : goal.returns
 returns c =
-    let s = c.start-tally.ensures in
+    let s = c.start.ensures in
     record {
-      by_index = λ row marks. came-first (stands-first s.0 s.1 s.2) refl refl;
+      by_index = λ row marks. came-first (stands-first s.0 s.1 s.2) refl;
       by_index_2 = λ row marks l m.
-          record {
-            ready = record { most = omega (arith, s.0); fits = s.3; room = m };
-            size = l;
-            kept = omega arith;
-            next = λ e. omega (arith, s.0);
-          };
+          record { ready = record { most = omega (arith, s.0); fits = s.3; room = m }; size = l; kept = omega arith; next = λ e. omega (arith, s.0) };
     }

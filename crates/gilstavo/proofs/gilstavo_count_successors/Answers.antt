@@ -1,12 +1,14 @@
 -- The count of the call behind it, unless that refuses.
-use Rattle.std.proofs.Common.{sym, ◌∙◌}
+use Rattle.std.proofs.Common.{ap}
 use Rattle.base.proofs.Orders.{refused-lent, accepted-lent}
+use Rattle.base.proofs.Refusals.{is-refused}
+use Rattle.formats.specs.GraphSheet.{Counted}
+use Rattle.successors.specs.Counted.{counted_of}
 use Rattle.gilstavo.proofs.gilstavo_count_successors.Goals as goal
 
-pub returns-then-c-ne0 : goal.returns-then-c-ne0
-returns-then-c-ne0 c = record { value = c.count_successors-c.ensures.0; count_after = refused-lent _ _ _ c.if-c-ne0.true }
+pub returns-in-Ok-clause-count_after : goal.returns-in-Ok-clause-count_after
+returns-in-Ok-clause-count_after c =
+    accepted-lent _ _ (ap (λ (x : Counted). x.count) (rw c.in-Ok.is at c.count_successors.ensures))
 
-pub returns : goal.returns
-returns c =
-    let e = c.count_successors-c.ensures in
-    record { value = sym c.if-c-ne0.false ∙ e.0; count_after = accepted-lent _ _ e.1 }
+pub returns-in-Err-clause-count_after : goal.returns-in-Err-clause-count_after
+returns-in-Err-clause-count_after c = rw c.number.ensures (refused-lent _ _ _ (is-refused _))

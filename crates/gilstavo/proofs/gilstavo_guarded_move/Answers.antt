@@ -1,20 +1,19 @@
 -- A guarded move of the walk that the words stand for.
-use Rattle.std.proofs.Common.{sym, ◌∙◌}
+use Rattle.std.proofs.Common.{◌∙◌}
 use Rattle.calls.specs.Moves.{guarded_move}
-use Rattle.gilstavo.specs.Steps.{guarded_step}
-use Rattle.gilstavo.proofs.Steps.{step-answer, step-refused, step-accepted}
+use Rattle.walk.specs.WalkWords.{walk_in}
+use Rattle.gilstavo.specs.Steps.{in_words, guarded_step}
+use Rattle.gilstavo.proofs.Steps.{words-after}
 use Rattle.gilstavo.proofs.gilstavo_guarded_move.Goals as goal
 
-pub returns-then-g-ne0 : goal.returns-then-g-ne0
-unfolding guarded_step guarded_move
-returns-then-g-ne0 c =
-    let a = rw c.walk_of-w.ensures at c.guarded_move-g.ensures.answer_value in
-    record { value = step-answer _ _ a; walk_after = step-refused _ _ a c.if-g-ne0.true; area_after = rw c.walk_of-w.ensures at c.guarded_move-g.ensures.area_after }
-
 pub returns : goal.returns
-unfolding guarded_step guarded_move
+unfolding guarded_step guarded_move in_words
 returns c =
-    let a = rw c.walk_of-w.ensures at c.guarded_move-g.ensures.answer_value in
-    let z = c.if-g-ne0.false in
-    let after = rw c.walk_of-w.ensures at c.guarded_move-g.ensures.walk_value in
-    record { value = sym z ∙ step-answer _ _ a; walk_after = step-accepted _ _ a z c.put_walk.ensures after; area_after = rw c.walk_of-w.ensures at c.guarded_move-g.ensures.area_after }
+    let s = walk_in c.args.walk.now in
+    let e = rw c.from.ensures at c.guarded_move-moved.ensures.answer_value in
+    let f = rw c.from.ensures at c.guarded_move-moved.ensures.walk_value in
+    record {
+      value = c.set_words.ensures.value ∙ e;
+      walk_after = c.set_words.ensures.words ∙ words-after _ _ s _ e f;
+      area_after = rw c.from.ensures at c.guarded_move-moved.ensures.area_after;
+    }

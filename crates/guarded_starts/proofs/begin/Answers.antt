@@ -1,81 +1,92 @@
--- `guarded_starts::begin` meets its contract: nothing fits the largest budget, the budget's number is refused, or block 1 is looked up.
-use Rattle.std.proofs.Common.{◌≡◌, Bool, ◌≤◌, length}
-use Rattle.base.specs.Lists.{option_of, nth}
-use Rattle.base.specs.Checks.{outside}
-use Rattle.theory.specs.Completions.{low_of}
-use Rattle.formats.specs.Limits.{most_budget}
-use Rattle.formats.specs.GraphSheet.{header}
+-- Nothing fits the largest budget, the budget's number is refused, or block 1 is looked up.
+use Rattle.std.proofs.Common.{refl, sym, ap, arith}
+use Rattle.std.proofs.lemmas.Result.{err_from_is_err_and}
+use Rattle.base.specs.Options.{option_in}
+use Rattle.base.specs.Refusals.{number_of}
+use Rattle.base.proofs.Refusals.{is-refused}
 use Rattle.formats.proofs.Handler.{accepted-with}
-use Rattle.calls.specs.SheetGraph.{graph, task}
-use Rattle.calls.specs.Area.{Table}
-use Rattle.weigh_sheet.proofs.Answers.{Weighs}
-use Rattle.weigh_sheet.proofs.Into.{leaves, weighs-into}
+use Rattle.calls.specs.Moves.{Budgeted}
+use Rattle.calls.proofs.Weigh.{front-passes}
+use Rattle.weigh_sheet.proofs.Answers.{front-leaves, front-passed}
 use Rattle.walk.specs.Walks.{walk_of}
 use Rattle.guarded_moves.proofs.Weighed.{sheet-table, number_is, counted, within}
-use Rattle.guarded_starts.proofs.Answers.{start_cell, start-low, weigh-refused, number-refused, stops, goes}
+use Rattle.guarded_starts.proofs.Answers.{Begins, start_cell, start-low, weigh-refused, number-refused, stops, goes}
 use Rattle.guarded_starts.proofs.begin.Goals as goal
 
-pub lowered_largest-l-requires : goal.lowered_largest-l-requires
-lowered_largest-l-requires c = (accepted-with _ _ c.requires.0).sheet.long
+pub weigh_passed-requires : goal.weigh_passed-requires
+weigh_passed-requires c = front-leaves _ _ _ c.requires c.lowered_largest-largest.ensures.0
 
-pub weigh_passed-a-requires : goal.weigh_passed-a-requires
-weigh_passed-a-requires c = leaves _ _ c.args.area.now c.requires c.lowered_largest-l.ensures.0
-
-pub returns-then-a-ne0 : goal.returns-then-a-ne0
-returns-then-a-ne0 c =
-    let weighs : Weighs c.args.s.now c.args.h c.args.area.now c.weigh_passed-a.result c.weigh_passed-a.new.area = weighs-into _ _ _ c.requires c.lowered_largest-l.ensures.0 c.weigh_passed-a.ensures.value c.weigh_passed-a.ensures.area_after in
+pub returns-in_err-weigh_passed : goal.returns-in_err-weigh_passed
+returns-in_err-weigh_passed c =
     let a = c.args in
-    let whole = weigh-refused a.s.now a.h a.area.now (walk_of a.w) a.budget weighs c.if-a-ne0.true in record { answer_value = whole.0; walk_value = whole.1.0; area_after = whole.1.1 }
-
-pub read_budgets-at-requires : goal.read_budgets-at-requires
-read_budgets-at-requires c = (accepted-with _ _ c.requires.0).sheet.long
+    let p = err_from_is_err_and c.from_residual.result c.from_residual.ensures.1 in
+    let e = c.in_err-weigh_passed.ensures in
+    let weighs = front-passed _ _ _ c.requires c.lowered_largest-largest.ensures.0 e.value e.area_after in
+    let whole : (s : Budgeted) → Begins a.sheet.records.words.now a.handler a.area.now s a.budget (number_of c.in_err-weigh_passed.field-0.0) s c.weigh_passed.new.area = λ s. weigh-refused a.sheet.records.words.now a.handler a.area.now s a.budget weighs (is-refused _) in
+    rw (p.1, p.2) (record { answer_value = λ s. (whole s).0; walk_value = λ s. (whole s).1.0; area_after = λ s. (whole s).1.1 })
 
 pub returns-then-is_outside : goal.returns-then-is_outside
 returns-then-is_outside c =
-    let weighs : Weighs c.args.s.now c.args.h c.args.area.now c.weigh_passed-a.result c.weigh_passed-a.new.area = weighs-into _ _ _ c.requires c.lowered_largest-l.ensures.0 c.weigh_passed-a.ensures.value c.weigh_passed-a.ensures.area_after in
-    let tested : (b : Bool) → c.is_outside.result ≡ b → outside 1 (length (task c.args.s.now c.args.h).budgets) c.args.budget ≡ b = λ b. number_is _ _ c.requires.0 c.read_budgets-at.ensures.first_value.1 _ c.is_outside.ensures in
     let a = c.args in
-    let whole = number-refused a.s.now a.h a.area.now (walk_of a.w) a.budget weighs c.if-a-ne0.false
-    c.lowered_largest-l.ensures.0 c.weigh_passed-a.ensures.area_after (tested _ c.if-is_outside.true) in record { answer_value = whole.0; walk_value = whole.1.0; area_after = whole.1.1 }
+    let ok = (front-passes _ (sym c.requires)).0 in
+    let l = c.lowered_largest-largest.ensures.0 in
+    let f = c.in_ok-weigh_passed.ensures.area_after in
+    let weighs = front-passed _ _ _ c.requires l c.in_ok-weigh_passed.ensures.value f in
+    let out = number_is _ _ ok a.sheet.sound.budgets _ c.is_outside.ensures c.if-is_outside.true in
+    let whole : (s : Budgeted) → Begins a.sheet.records.words.now a.handler a.area.now s a.budget 33 s c.weigh_passed.new.area = λ s. number-refused a.sheet.records.words.now a.handler a.area.now s a.budget weighs refl l f out in
+    record { answer_value = λ s. (whole s).0; walk_value = λ s. (whole s).1.0; area_after = λ s. (whole s).1.1 }
 
-pub lowered_budget-b-requires : goal.lowered_budget-b-requires
-lowered_budget-b-requires c =
-    let A = accepted-with _ _ c.requires.0 in
-    record { least_words_in_bounds = (A.sheet.long, A.sheet.there); le_k = counted _ _ c.requires.0 c.read_budgets-at.ensures.first_value.1 _ c.is_outside.ensures c.if-is_outside.false }
+pub lowered_budget-most-requires : goal.lowered_budget-most-requires
+lowered_budget-most-requires c =
+    let ok = (front-passes _ (sym c.requires)).0 in
+    let A = accepted-with _ _ ok in
+    record {
+      least_words_in_bounds = (A.sheet.long, A.sheet.there);
+      le_index = counted _ _ ok c.args.sheet.sound.budgets _ c.is_outside.ensures c.if-is_outside.false;
+    }
 
-pub look_up-fitting-requires : goal.look_up-fitting-requires
-look_up-fitting-requires c =
-    let weighs : Weighs c.args.s.now c.args.h c.args.area.now c.weigh_passed-a.result c.weigh_passed-a.new.area = weighs-into _ _ _ c.requires c.lowered_largest-l.ensures.0 c.weigh_passed-a.ensures.value c.weigh_passed-a.ensures.area_after in
-    let table : Table (graph c.args.s.now) (header c.args.s.now).blocks c.lowered_largest-l.result c.weigh_passed-a.new.area = sheet-table _ _ _ weighs c.if-a-ne0.false c.lowered_largest-l.ensures.0
-    c.weigh_passed-a.ensures.area_after in
-    let fits : (c.lowered_budget-b.result ≤ c.lowered_largest-l.result) × (c.lowered_largest-l.result ≤ most_budget) = within _ _ c.requires.0 c.read_budgets-at.ensures.first_value.1 _ c.is_outside.ensures c.if-is_outside.false
-    c.lowered_budget-b.ensures.0 c.lowered_largest-l.ensures.0 in
-    let whole = start_cell _ _ c.requires.0 table fits in record { within = whole.0; has_cell = whole.1 }
+pub invariant_of-layout : goal.invariant_of-layout
+invariant_of-layout c =
+    let S = c.args.sheet.sound in
+    record { small = (omega (arith, S.sound.form.blocks.1), (front-leaves _ _ _ c.requires c.lowered_largest-largest.ensures.0).0) }
 
-pub returns-then-fitting-eq0 : goal.returns-then-fitting-eq0
-returns-then-fitting-eq0 c =
-    let weighs : Weighs c.args.s.now c.args.h c.args.area.now c.weigh_passed-a.result c.weigh_passed-a.new.area = weighs-into _ _ _ c.requires c.lowered_largest-l.ensures.0 c.weigh_passed-a.ensures.value c.weigh_passed-a.ensures.area_after in
-    let tested : (b : Bool) → c.is_outside.result ≡ b → outside 1 (length (task c.args.s.now c.args.h).budgets) c.args.budget ≡ b = λ b. number_is _ _ c.requires.0 c.read_budgets-at.ensures.first_value.1 _ c.is_outside.ensures in
-    let table : Table (graph c.args.s.now) (header c.args.s.now).blocks c.lowered_largest-l.result c.weigh_passed-a.new.area = sheet-table _ _ _ weighs c.if-a-ne0.false c.lowered_largest-l.ensures.0
-    c.weigh_passed-a.ensures.area_after in
-    let fits : (c.lowered_budget-b.result ≤ c.lowered_largest-l.result) × (c.lowered_largest-l.result ≤ most_budget) = within _ _ c.requires.0 c.read_budgets-at.ensures.first_value.1 _ c.is_outside.ensures c.if-is_outside.false
-    c.lowered_budget-b.ensures.0 c.lowered_largest-l.ensures.0 in
-    let looked : let a = c.args in option_of c.look_up-fitting.result.low ≡ low_of (graph a.s.now) 1 (nth (task a.s.now a.h).budgets a.budget) = start-low _ _ c.requires.0 table fits _ c.lowered_budget-b.ensures.0 _ c.look_up-fitting.ensures.low_value in
+pub look_up-requires : goal.look_up-requires
+look_up-requires c =
+    let ok = (front-passes _ (sym c.requires)).0 in
+    let l = c.lowered_largest-largest.ensures.0 in
+    let f = c.in_ok-weigh_passed.ensures.area_after in
+    let weighs = front-passed _ _ _ c.requires l c.in_ok-weigh_passed.ensures.value f in
+    let fits = within _ _ ok c.args.sheet.sound.budgets _ c.is_outside.ensures c.if-is_outside.false c.lowered_budget-most.ensures.0 l in
+    let S = c.args.sheet.sound in
+    let n = rw (sym S.header) at (start_cell _ _ ok (sheet-table _ _ _ weighs refl l f)) in
+    record { inside = (omega arith, n.0, fits.0); has_cell = n.1 }
+
+pub returns-in-None : goal.returns-in-None
+returns-in-None c =
     let a = c.args in
-    let whole = stops a.s.now a.h a.area.now (walk_of a.w) a.budget weighs c.if-a-ne0.false
-    c.lowered_largest-l.ensures.0 c.weigh_passed-a.ensures.area_after
-    (tested _ c.if-is_outside.false) _ looked c.if-fitting-eq0.true c.stop-after.ensures in record { answer_value = whole.0; walk_value = whole.1.0; area_after = whole.1.1 }
+    let ok = (front-passes _ (sym c.requires)).0 in
+    let l = c.lowered_largest-largest.ensures.0 in
+    let b = c.lowered_budget-most.ensures.0 in
+    let f = c.in_ok-weigh_passed.ensures.area_after in
+    let weighs = front-passed _ _ _ c.requires l c.in_ok-weigh_passed.ensures.value f in
+    let inside = number_is _ _ ok a.sheet.sound.budgets _ c.is_outside.ensures c.if-is_outside.false in
+    let fits = within _ _ ok a.sheet.sound.budgets _ c.is_outside.ensures c.if-is_outside.false b l in
+    let looked = start-low _ _ ok (sheet-table _ _ _ weighs refl l f) fits.0 _ b _ c.look_up.ensures.low_value in
+    let whole : (s : Budgeted) → Begins a.sheet.records.words.now a.handler a.area.now s a.budget 0 (walk_of c.stop.result) c.weigh_passed.new.area = λ s. stops a.sheet.records.words.now a.handler a.area.now s a.budget weighs refl l f inside _ looked (ap option_in c.in-None.is)
+    c.stop.ensures in
+    record { answer_value = λ s. (whole s).0; walk_value = λ s. (whole s).1.0; area_after = λ s. (whole s).1.1 }
 
-pub returns : goal.returns
-returns c =
-    let weighs : Weighs c.args.s.now c.args.h c.args.area.now c.weigh_passed-a.result c.weigh_passed-a.new.area = weighs-into _ _ _ c.requires c.lowered_largest-l.ensures.0 c.weigh_passed-a.ensures.value c.weigh_passed-a.ensures.area_after in
-    let tested : (b : Bool) → c.is_outside.result ≡ b → outside 1 (length (task c.args.s.now c.args.h).budgets) c.args.budget ≡ b = λ b. number_is _ _ c.requires.0 c.read_budgets-at.ensures.first_value.1 _ c.is_outside.ensures in
-    let table : Table (graph c.args.s.now) (header c.args.s.now).blocks c.lowered_largest-l.result c.weigh_passed-a.new.area = sheet-table _ _ _ weighs c.if-a-ne0.false c.lowered_largest-l.ensures.0
-    c.weigh_passed-a.ensures.area_after in
-    let fits : (c.lowered_budget-b.result ≤ c.lowered_largest-l.result) × (c.lowered_largest-l.result ≤ most_budget) = within _ _ c.requires.0 c.read_budgets-at.ensures.first_value.1 _ c.is_outside.ensures c.if-is_outside.false
-    c.lowered_budget-b.ensures.0 c.lowered_largest-l.ensures.0 in
-    let looked : let a = c.args in option_of c.look_up-fitting.result.low ≡ low_of (graph a.s.now) 1 (nth (task a.s.now a.h).budgets a.budget) = start-low _ _ c.requires.0 table fits _ c.lowered_budget-b.ensures.0 _ c.look_up-fitting.ensures.low_value in
+pub returns-in-Some : goal.returns-in-Some
+returns-in-Some c =
     let a = c.args in
-    let whole = goes a.s.now a.h a.area.now (walk_of a.w) a.budget weighs c.if-a-ne0.false
-    c.lowered_largest-l.ensures.0 c.weigh_passed-a.ensures.area_after
-    (tested _ c.if-is_outside.false) _ looked c.if-fitting-eq0.false c.set_out-after.ensures in record { answer_value = whole.0; walk_value = whole.1.0; area_after = whole.1.1 }
+    let ok = (front-passes _ (sym c.requires)).0 in
+    let l = c.lowered_largest-largest.ensures.0 in
+    let b = c.lowered_budget-most.ensures.0 in
+    let f = c.in_ok-weigh_passed.ensures.area_after in
+    let weighs = front-passed _ _ _ c.requires l c.in_ok-weigh_passed.ensures.value f in
+    let inside = number_is _ _ ok a.sheet.sound.budgets _ c.is_outside.ensures c.if-is_outside.false in
+    let fits = within _ _ ok a.sheet.sound.budgets _ c.is_outside.ensures c.if-is_outside.false b l in
+    let looked = start-low _ _ ok (sheet-table _ _ _ weighs refl l f) fits.0 _ b _ c.look_up.ensures.low_value in
+    let whole : (s : Budgeted) → Begins a.sheet.records.words.now a.handler a.area.now s a.budget 0 (walk_of c.set_out.result) c.weigh_passed.new.area = λ s. goes a.sheet.records.words.now a.handler a.area.now s a.budget weighs refl l f inside _ looked (ap option_in c.in-Some.is)
+    c.set_out.ensures in
+    record { answer_value = λ s. (whole s).0; walk_value = λ s. (whole s).1.0; area_after = λ s. (whole s).1.1 }

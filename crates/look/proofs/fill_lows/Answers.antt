@@ -1,19 +1,18 @@
--- `look::fill_lows` fills the rows of all blocks; each turn fills one row more.
-use Rattle.std.proofs.Common.{◌≤◌, arith, rules}
+-- Each turn fills the row of one block more.
+use Rattle.std.proofs.Common.{◌≤◌, arith}
 use Rattle.base.proofs.Cells.{count-rises}
 use Rattle.calls.proofs.Area.{fewer-blocks}
 use Rattle.look.proofs.Rows.{rows_end}
 use Rattle.look.proofs.fill_lows.Goals as goal
 
-pub fill_row-requires : goal.fill_row-requires
-fill_row-requires c =
-    let A = c.loop-v.invariant in
-    let l : c.loop-v.v ≤ c.args.n = omega arith in
-    let p = fewer-blocks c.args.n c.args.b c.loop-v.v l in
-    let q = count-rises c.args.b c.loop-v.v c.args.n l in
-    record { b_le_most_budget = omega (arith, A.range); b_in_bounds = (omega (arith, c.requires.b_in_bounds.0), omega (arith, c.requires.b_in_bounds.1, A.size)) }
+pub fill_row-requires-clause-room : goal.fill_row-requires-clause-room
+fill_row-requires-clause-room c =
+    let n = c.args.layout.blocks in
+    let b = c.args.layout.budget in
+    let l : c.loop-block.block ≤ n = omega arith in (
+      omega (arith, c.requires.room.0, fewer-blocks n b c.loop-block.block l),
+      omega (arith, c.requires.room.1, c.loop-block.invariant.size, count-rises b c.loop-block.block n l),
+    )
 
-pub returns : goal.returns
-returns c =
-    let A = c.loop-v.invariant in
-    record { lows_len_unchanged = A.size; lows = rows_end A c.requires.b_in_bounds.1 (search rules) }
+pub returns-clause-lows : goal.returns-clause-lows
+returns-clause-lows c = rows_end c.loop-block.invariant c.requires.room.1 (omega arith)

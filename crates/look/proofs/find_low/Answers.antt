@@ -1,24 +1,20 @@
--- The loop from r down stops at the largest cost that the area stands for.
+-- The loop from the cycles down stops at the largest cost that the area stands for.
 use Rattle.std.proofs.Common.{sym, ◌∙◌, ◌-◌, arith}
 use Rattle.calls.proofs.Area.{lower-cell}
 use Rattle.look.proofs.Scan.{begin, out, hit, miss}
 use Rattle.look.proofs.find_low.Goals as goal
 
-pub loop-i-init : goal.loop-i-init
-loop-i-init c = (omega arith, begin _ _)
+pub loop-cost-init : goal.loop-cost-init
+loop-cost-init c = begin _ _
 
-pub is_set-requires : goal.is_set-requires
-is_set-requires c =
-    let W = c.requires.within in
-    record { within = record { budget = W.budget; block = W.block; cost = omega arith }; has_cell = lower-cell c.args.b c.args.v (c.loop-i.i - 1) c.args.b c.args.area.now (omega (arith, W.cost)) c.requires.has_cell }
+pub is_set-requires-clause-has_cell : goal.is_set-requires-clause-has_cell
+is_set-requires-clause-has_cell c = lower-cell _ _ _ _ c.args.area.now (omega arith) c.requires.has_cell
 
 pub returns-then-is_set : goal.returns-then-is_set
-returns-then-is_set c = hit _ _ _ c.loop-i.invariant.1 (omega arith) (sym c.is_set.ensures ∙ c.if-is_set.true)
+returns-then-is_set c = hit _ _ _ c.loop-cost.invariant (omega arith) (sym c.is_set.ensures ∙ c.if-is_set.true)
 
-pub loop-i-preserved : goal.loop-i-preserved
-loop-i-preserved c =
-    let h = miss _ _ _ c.loop-i.invariant.1 (omega arith) (sym c.is_set.ensures ∙ c.if-is_set.false) in
-    (omega arith, h)
+pub loop-cost-preserved : goal.loop-cost-preserved
+loop-cost-preserved c = miss _ _ _ c.loop-cost.invariant (omega arith) (sym c.is_set.ensures ∙ c.if-is_set.false)
 
 pub returns : goal.returns
-returns c = out _ _ _ c.loop-i.invariant.1 (omega arith)
+returns c = out _ _ _ c.loop-cost.invariant (omega arith)

@@ -7,10 +7,10 @@ use Rattle.lowered.proofs.lowered_budget.Goals as goal
 
 pub returns : goal.returns
 returns c =
-    let k = c.args.k in
-    let p = c.requires.le_k in
-    let b = c.budget-b.ensures in (
-      c.less.ensures.0 ∙ ap (λ (x : ℕ). x - c.args.h) b.0
-          ∙ sym (lowered-nth c.args.h (budgets_in c.args.s.now) k p.0 (omega (arith, p.1, budgets-there _ c.requires.least_words_in_bounds.1))),
-      omega (arith, c.less.ensures.1, b.1),
+    let k = c.args.index in
+    let p = c.requires.le_index in
+    let b = c.budget.ensures in (
+      c.saturating_sub.ensures ∙ ap (λ (x : ℕ). x - c.args.handler) b.0
+          ∙ sym (lowered-nth c.args.handler (budgets_in c.args.words.now) k p.0 (omega (arith, p.1, budgets-there _ c.requires.least_words_in_bounds.1))),
+      omega (arith, c.saturating_sub.ensures, b.1),
     )

@@ -6,8 +6,6 @@ use Rattle.lowered.proofs.lowered_largest.Goals as goal
 
 pub returns : goal.returns
 returns c =
-    let z = c.args in
-    let b = c.largest-b.ensures in (
-      c.less.ensures.0 ∙ ap (λ (x : ℕ). x - z.h) b.0 ∙ sym (lowered-last z.h (budgets_in z.s.now)),
-      omega (arith, c.less.ensures.1, b.1),
-    )
+    let a = c.args in
+    let b = c.largest.ensures in
+    (c.saturating_sub.ensures ∙ ap (λ (x : ℕ). x - a.handler) b.0 ∙ sym (lowered-last a.handler (budgets_in a.words.now)), omega (arith, c.saturating_sub.ensures, b.1))

@@ -7,38 +7,39 @@ use Rattle.margins.specs.Margins.{margin_words}
 use Rattle.margins.proofs.Words.{next-above, word_at, costs-stand}
 use Rattle.margins.proofs.put_margins.Goals as goal
 
-pub loop-i-init : goal.loop-i-init
+pub loop-copy-init : goal.loop-copy-init
 unfolding margin_words
-loop-i-init c = parts-begin _ _ c.requires.c_in_bounds
+loop-copy-init c = parts-begin _ _ c.requires.copies_in_bounds
 
-pub look_up-x-requires : goal.look_up-x-requires
-look_up-x-requires c =
+pub look_up-found-requires : goal.look_up-found-requires
+look_up-found-requires c =
     let R = c.requires.records.0 in
-    let l = c.loop-i.invariant.least in
-    let v : (1 ≤ c.field-v.result) × (c.field-v.result ≤ most_blocks) = omega (arith, R.block c.loop-i.i l c.loop-i-test.true) in
+    let v = R.block c.loop-copy.copy (omega arith) (omega arith) in
+    let l = R.low c.loop-copy.copy (omega arith) (omega arith) in
+    let p : (1 ≤ c.field-block.result) × (c.field-block.result ≤ most_blocks) = omega (arith, v) in
     record {
-      within = record { budget = R.budget; block = v; cost = omega (arith, R.low c.loop-i.i l c.loop-i-test.true) };
-      has_cell = costs-stand c.args.b c.field-v.result c.args.area.now R.budget v.0 v.1 c.requires.records.1;
+      inside = (p.0, p.1, omega (arith, l));
+      has_cell = costs-stand c.args.largest c.field-block.result c.args.area.now R.budget p.0 p.1 c.requires.records.1;
     }
 
-pub put_margin-q-requires : goal.put_margin-q-requires
-put_margin-q-requires c =
+pub put_margin-end-requires : goal.put_margin-end-requires
+put_margin-end-requires c =
     let a = c.args in
-    let n = c.look_up-x.ensures.next_value in
-    let margin-is = word_at a.t.now a.area.now a.b a.at c.loop-i.i _ c.field-v.ensures.0 c.field-low.ensures.0 n in
+    let n = c.look_up-found.ensures.next_value in
+    let is = word_at a.sheet.now a.area.now a.largest a.at c.loop-copy.copy _ c.field-block.ensures.0 c.field-low.ensures.0 n in
     record {
-      low_lt_next = next-above _ _ _ _ c.look_up-x.result.next n;
-      next_in_bounds = subst (λ (w : List ℕ). c.loop-i.q + length w ≤ length c.loop-i.text) (sym margin-is)
-          (part_room _ _ c.loop-i.invariant c.loop-i-test.true);
+      low_lt_next = next-above _ _ _ _ c.look_up-found.result.next n;
+      next_in_bounds = subst (λ (w : List ℕ). c.loop-copy.end + length w ≤ length c.loop-copy.text) (sym is)
+          (part_room _ _ c.loop-copy.invariant (omega arith));
     }
 
-pub loop-i-preserved : goal.loop-i-preserved
-loop-i-preserved c =
+pub loop-copy-preserved : goal.loop-copy-preserved
+loop-copy-preserved c =
     let a = c.args in
-    let margin-is =
-    word_at a.t.now a.area.now a.b a.at c.loop-i.i _ c.field-v.ensures.0 c.field-low.ensures.0 c.look_up-x.ensures.next_value in
-    parts-on _ _ c.loop-i.invariant c.loop-i-test.true (wrote_as c.put_margin-q.ensures margin-is) c.put_margin-q.auto.text
+    let is =
+    word_at a.sheet.now a.area.now a.largest a.at c.loop-copy.copy _ c.field-block.ensures.0 c.field-low.ensures.0 c.look_up-found.ensures.next_value in
+    parts-on _ _ c.loop-copy.invariant (omega arith) (wrote_as c.put_margin-end.ensures is) c.put_margin-end.auto.text
 
 pub returns : goal.returns
 unfolding margin_words
-returns c = parts-end _ _ c.loop-i.invariant c.loop-i-test.false
+returns c = parts-end _ _ c.loop-copy.invariant (omega arith)

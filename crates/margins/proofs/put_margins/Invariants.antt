@@ -1,11 +1,8 @@
 -- The copies one by one: each is looked up, and its margin written.
-use Rattle.std.proofs.Common.{◌+◌, ◌-◌}
 use Rattle.digits.proofs.Counted.{PartsDue}
 use Rattle.margins.specs.Margins.{margin_at, margin_word}
 use Rattle.margins.proofs.put_margins.Given as goal
 
-abbrev pub invariant-loop-i : goal.invariant-loop-i
-invariant-loop-i l = PartsDue (λ i. margin_word (margin_at l.t l.area l.b l.at i)) l.c l.initial.text l.p l.text l.q l.i
-
-abbrev pub decreases-loop-i : goal.decreases-loop-i
-decreases-loop-i l = l.c + 1 - l.i
+abbrev pub invariant-loop-copy : goal.invariant-loop-copy
+invariant-loop-copy l =
+    PartsDue (λ i. margin_word (margin_at l.sheet l.area l.largest l.at i)) l.copies l.initial.text l.place l.text l.end l.copy

@@ -6,6 +6,6 @@ use Rattle.masks.proofs.meet.Goals as goal
 pub returns : goal.returns
 returns c =
     let z = c.args in
-    meets z.a.now z.i z.b.now z.j (c.type_inv.a (2 * z.i)).fits
-    (c.type_inv.b (2 * z.j)).fits (c.type_inv.a (2 * z.i + 1)).fits
-    (c.type_inv.b (2 * z.j + 1)).fits
+    meets z.row.now z.mask z.others.now z.other (c.type_inv.row (2 * z.mask)).fits
+    (c.type_inv.others (2 * z.other)).fits (c.type_inv.row (2 * z.mask + 1)).fits
+    (c.type_inv.others (2 * z.other + 1)).fits

@@ -1,17 +1,32 @@
--- The copies before the cell i are numbered; the measure is the cells left.
-use Rattle.std.proofs.Common.{refl}
-use Rattle.tables.proofs.Rest.{scan-of}
-use Rattle.number.proofs.Numbering.{numbering_start, numbering-on, numbering-end}
+-- The copies of the cells that were given are numbered.
+use Rattle.std.proofs.Common.{refl, ◌∙◌, ap, arith}
+use Rattle.tables.specs.Rest.{rest}
+use Rattle.tables.proofs.Places.{few-cells, count_code}
+use Rattle.number.proofs.Numbering.{numbering_start, numbering-room, numbering-on, numbering-end}
 use Rattle.number.proofs.number.Goals as goal
 
-pub loop-i-init : goal.loop-i-init
-loop-i-init c = numbering_start _ _ _ (scan-of c.requires.n_le_most_blocks c.requires.b_in_bounds.0 c.cell_count-size.ensures) _ c.requires.b_in_bounds.1 c.next_marked-i.ensures
+pub loop-index-init : goal.loop-index-init
+loop-index-init c = numbering_start _ _ _ _ _ c.requires.room.1 (ap rest c.into_iter-index-iterator.ensures.into_iter_gives ∙ c.marked_cells-index-items.ensures)
 
-pub loop-i-preserved : goal.loop-i-preserved
-loop-i-preserved c = numbering-on _ _ _ c.loop-i.invariant c.loop-i-test.true refl refl c.next_marked-i-in-loop-i.ensures
+pub overflow_cast-numbers : goal.overflow_cast-numbers
+overflow_cast-numbers c =
+    let r = numbering-room _ _ _ c.loop-index.invariant c.in-Some.ensures.steps in
+    let n = c.args.layout.blocks in
+    let b = c.args.layout.budget in
+    omega (arith, r.0, few-cells n b c.args.layout.small.0 c.args.layout.small.1, count_code n b)
 
-pub returns-clause-value : goal.returns-clause-value
-returns-clause-value c = (numbering-end _ _ _ c.loop-i.invariant c.loop-i-test.false).0
+pub bounds-numbers-index : goal.bounds-numbers-index
+bounds-numbers-index c = (numbering-room _ _ _ c.loop-index.invariant c.in-Some.ensures.steps).1
+
+pub offset_bounds-numbers-index : goal.offset_bounds-numbers-index
+offset_bounds-numbers-index c =
+    let M = c.loop-index.invariant in
+    let n = c.args.layout.blocks in
+    let b = c.args.layout.budget in
+    omega (arith, (numbering-room _ _ _ M c.in-Some.ensures.steps).1, few-cells n b c.args.layout.small.0 c.args.layout.small.1, count_code n b)
+
+pub loop-index-preserved : goal.loop-index-preserved
+loop-index-preserved c = numbering-on _ _ _ c.loop-index.invariant c.in-Some.ensures.steps refl refl
 
 pub returns-clause-by_index : goal.returns-clause-by_index
-returns-clause-by_index c = (numbering-end _ _ _ c.loop-i.invariant c.loop-i-test.false).1
+returns-clause-by_index c = (numbering-end _ _ _ c.loop-index.invariant c.in-None.ensures.steps.0).1

@@ -1,55 +1,58 @@
 -- 10 by the copies, 22 by the length, else the words.
-use Rattle.std.proofs.Common.{refl, ◌≤◌, arith, length}
-use Rattle.calls.specs.SheetGraph.{bounded_for}
-use Rattle.graph_row.specs.GraphRow.{task_in}
+use Rattle.std.proofs.Common.{refl, arith, length}
+use Rattle.chain_records.specs.Founds.{task_of}
 use Rattle.heading_words.proofs.Entries.{size-most}
 use Rattle.output.specs.Answer.{output_at}
 use Rattle.output.proofs.Answers.{sheet-length, many-copies, short_row, long-row}
+use Rattle.output.proofs.Served.{copies_are, edges_are}
 use Rattle.output.proofs.write_numbered.Goals as goal
+
+pub returns-then-found-gt-MOST_COPIES : goal.returns-then-found-gt-MOST_COPIES
+unfolding output_at
+returns-then-found-gt-MOST_COPIES c =
+    let f = c.args.found.now in
+    record { value = many-copies c.args.second (task_of f) (length c.args.output.now) (omega (arith, copies_are f, c.if-found-gt-MOST_COPIES.true)); out_after = refl }
+
+pub heading_size-size-requires : goal.heading_size-size-requires
+heading_size-size-requires c = c.args.found.now.claimed.0.count.1
 
 pub overflow_add-size : goal.overflow_add-size
 overflow_add-size c =
-    let most = size-most c.args.second (length c.args.bs.now) c.requires.claimed.0.count.1 in
-    omega (arith, c.heading_size-size.ensures, most, c.if-copies-gt-MOST_COPIES.false)
+    let most = size-most c.args.second (length c.args.found.now.budgets.now) c.args.found.now.claimed.0.count.1 in
+    omega (arith, c.heading_size-size.ensures, most, c.if-found-gt-MOST_COPIES.false)
 
 pub overflow_add-size-2 : goal.overflow_add-size-2
 overflow_add-size-2 c =
-    omega (
-      arith,
-      c.heading_size-size.ensures,
-      size-most c.args.second (length c.args.bs.now) c.requires.claimed.0.count.1,
-      c.if-copies-gt-MOST_COPIES.false,
-      c.requires.edges_value.1,
-    )
+    let f = c.args.found.now in
+    let most = size-most c.args.second (length f.budgets.now) f.claimed.0.count.1 in
+    omega (arith, c.heading_size-size.ensures, most, c.if-found-gt-MOST_COPIES.false, f.edges_counted.1)
 
-pub returns-then-out-size : goal.returns-then-out-size
+pub returns-then-output-size : goal.returns-then-output-size
 unfolding output_at
-returns-then-out-size c =
-    let T = task_in c.args.row.now c.args.bs.now c.args.b in
+returns-then-output-size c =
+    let f = c.args.found.now in
+    let T = task_of f in
     record {
-      value = short_row c.args.second T (length c.args.out.now) (omega (arith, c.requires.copies_value, c.if-copies-gt-MOST_COPIES.false)) (omega (arith, c.requires.edges_value))
-          (omega (arith, c.requires.copies_value, c.requires.edges_value, sheet-length c.args.second T, c.heading_size-size.ensures, c.if-out-size.true));
+      value = short_row c.args.second T (length c.args.output.now) (omega (arith, copies_are f, c.if-found-gt-MOST_COPIES.false)) (omega (arith, edges_are f, f.edges_counted.1))
+          (omega (arith, copies_are f, edges_are f, sheet-length c.args.second T, c.heading_size-size.ensures, c.if-output-size.true));
       out_after = refl;
     }
 
-pub write_sheet-requires-clause-b_in_bounds_2 : goal.write_sheet-requires-clause-b_in_bounds_2
-write_sheet-requires-clause-b_in_bounds_2 c =
-    let T = task_in c.args.row.now c.args.bs.now c.args.b in
-    let room : length (bounded_for c.args.second T) ≤ length c.args.out.now = omega (arith, c.requires.copies_value, c.requires.edges_value, sheet-length c.args.second T, c.heading_size-size.ensures, c.if-out-size.false) in
-    room
+pub write_sheet-requires : goal.write_sheet-requires
+write_sheet-requires c =
+    let f = c.args.found.now in
+    record {
+      few = omega (arith, c.if-found-gt-MOST_COPIES.false);
+      room = omega (arith, copies_are f, edges_are f, sheet-length c.args.second (task_of f), c.heading_size-size.ensures, c.if-output-size.false);
+    }
 
 pub returns : goal.returns
 unfolding output_at
 returns c =
-    let T = task_in c.args.row.now c.args.bs.now c.args.b in
+    let f = c.args.found.now in
+    let T = task_of f in
     record {
-      value = long-row c.args.second T (length c.args.out.now) (omega (arith, c.requires.copies_value, c.if-copies-gt-MOST_COPIES.false)) (omega (arith, c.requires.edges_value))
-          (omega (arith, c.requires.copies_value, c.requires.edges_value, sheet-length c.args.second T, c.heading_size-size.ensures, c.if-out-size.false));
+      value = long-row c.args.second T (length c.args.output.now) (omega (arith, copies_are f, c.if-found-gt-MOST_COPIES.false)) (omega (arith, edges_are f, f.edges_counted.1))
+          (omega (arith, copies_are f, edges_are f, sheet-length c.args.second T, c.heading_size-size.ensures, c.if-output-size.false));
       out_after = c.write_sheet.ensures;
     }
-
-pub returns-then-copies-gt-MOST_COPIES : goal.returns-then-copies-gt-MOST_COPIES
-unfolding output_at
-returns-then-copies-gt-MOST_COPIES c =
-    let T = task_in c.args.row.now c.args.bs.now c.args.b in
-    record { value = many-copies c.args.second T (length c.args.out.now) (omega (arith, c.requires.copies_value)); out_after = refl }

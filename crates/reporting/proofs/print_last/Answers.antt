@@ -7,5 +7,5 @@ pub returns-clause-ok : goal.returns-clause-ok
 returns-clause-ok g c =
     on_ok_weaker c.print_parts.result
     (λ closes xs before row P.
-    closes xs _ before (c.finish-part.ensures.finishes xs P.said row P.came).closed (Appends-trans _ _ _ P.said _ P.written c.in_ok-print.ensures.ok))
+    closes xs _ before (c.finish-line.ensures.finishes xs P.said row P.came).closed (Appends-trans _ _ _ P.said _ P.written c.in_ok-print.ensures.ok))
     c.print_parts.ensures.ok

@@ -1,6 +1,7 @@
 -- There is a next part, or none; the parts so far were written. The measure is the parts left.
 use Rattle.std.proofs.Common.{◌≤◌, ◌+◌, ◌-◌, length}
 use Rattle.unused_lines.specs.Room.{unused_room}
+use Rattle.catalogue.specs.Parts.{parts_before}
 use Rattle.stream.specs.Ending.{Closable}
 use Rattle.reporting.proofs.Parts.{PartsPrinted}
 use Rattle.reporting.proofs.print_parts.Given as goal
@@ -13,4 +14,4 @@ invariant-loop-closing g l = record {
 }
 
 abbrev pub decreases-loop-closing : goal.decreases-loop-closing
-decreases-loop-closing g l = l.closing.tally.place + 2 - l.closing.next
+decreases-loop-closing g l = l.closing.tally.place + 2 - parts_before l.closing.tally.place l.closing.next

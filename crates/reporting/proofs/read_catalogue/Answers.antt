@@ -5,7 +5,7 @@ use Rattle.reporting.proofs.read_catalogue.Goals as goal
 
 pub loop-init : goal.loop-init
 loop-init g c =
-    let start = c.begin-s.ensures in
+    let start = c.begin-progress.ensures in
     record {
       able = start.by_index_2 _ _ c.requires.0 c.requires.1;
       came = ([], record { said = []; came = start.by_index _ _; written = Appends-nil _ }, Consumes-nil _);
@@ -13,6 +13,6 @@ loop-init g c =
 
 pub loop-preserved : goal.loop-preserved
 loop-preserved g c =
-    let fed = c.in_ok-s.ensures in
+    let fed = c.in_ok-progress.ensures in
     let before = c.loop.invariant.came in
-    record { able = fed.able; came = (before.0 ++ _, fed.prints before.0 _ before.1, Consumes-trans _ _ _ _ _ before.2 c.in_ok-n.ensures.bytes.0) }
+    record { able = fed.able; came = (before.0 ++ _, fed.prints before.0 _ before.1, Consumes-trans _ _ _ _ _ before.2 c.in_ok-count.ensures.bytes.0) }

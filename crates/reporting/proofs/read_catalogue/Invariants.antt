@@ -7,7 +7,7 @@ use Rattle.reporting.proofs.read_catalogue.Given as goal
 
 abbrev pub invariant-loop : goal.invariant-loop
 invariant-loop g l = record {
-  able : Able l.s l.row l.marks;
-  came : (xs : List ℕ) × Printed xs (g.W.Write.contents l.initial.writer) (g.W.Write.contents l.writer) l.s l.row l.marks
+  able : Able l.progress l.row l.marks;
+  came : (xs : List ℕ) × Printed xs (g.W.Write.contents l.initial.writer) (g.W.Write.contents l.writer) l.progress l.row l.marks
       × Consumes (g.R.Read.remaining l.initial.reader) (g.R.Read.remaining l.reader) xs;
 }

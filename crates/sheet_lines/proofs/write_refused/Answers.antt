@@ -7,11 +7,11 @@ use Rattle.report_lines.proofs.Lines.{whole-line}
 use Rattle.sheet_lines.proofs.Lines.{refused-is}
 use Rattle.sheet_lines.proofs.write_refused.Goals as goal
 
-pub put_decimal-p-requires : goal.put_decimal-p-requires
-put_decimal-p-requires c = omega (arith, digits_7 c.args.place c.requires.place_lt_number_limit.0)
+pub put_decimal-front-requires : goal.put_decimal-front-requires
+put_decimal-front-requires c = omega (arith, digits_7 c.args.place c.requires.place_lt_number_limit.0)
 
-pub put_named-q-requires : goal.put_named-q-requires
-put_named-q-requires c =
+pub put_named-end-requires : goal.put_named-end-requires
+put_named-end-requires c =
     let l = c.requires.place_lt_number_limit in
     omega (arith, digits_7 c.args.place l.0, spaced-7 c.args.number l.1)
 
@@ -23,6 +23,6 @@ put_byte-requires c =
 pub returns : goal.returns
 returns c =
     let l = c.requires.place_lt_number_limit in
-    whole-line (wrote_then c.put_decimal-p.ensures c.put_named-q.ensures) c.put_byte.ensures
+    whole-line (wrote_then c.put_decimal-front.ensures c.put_named-end.ensures) c.put_byte.ensures
     (refused-is c.args.place c.args.number) (omega (arith, digits_7 c.args.place l.0, spaced-7 c.args.number l.1))
     c.put_byte.auto.text

@@ -1,19 +1,17 @@
 -- Odd, too long, or the words.
-use Rattle.digits.proofs.Due.{wrote_as}
+use Rattle.std.proofs.Common.{ap, ◌∙◌}
+use Rattle.decimal.specs.Writing.{sheet_text}
+use Rattle.file_words.proofs.Filled.{words-first}
 use Rattle.show.proofs.Shown.{shown-odd, shown-long, shown-words}
 use Rattle.show.proofs.show_kept.Goals as goal
 
-pub returns-then-s : goal.returns-then-s
-returns-then-s c =
-    let e = c.write_refusal.ensures in
-    record { upper_bound = e.1; by_index = λ xs H. wrote_as e.0 (shown-odd H c.requires.row_len.0 c.if-s.true) }
+pub returns-then-kept : goal.returns-then-kept
+returns-then-kept c = λ xs H. shown-odd H c.requires.row_len.0 c.if-kept.true
 
-pub returns-then-row-n : goal.returns-then-row-n
-returns-then-row-n c =
-    let e = c.write_refusal-then-row-n.ensures in
-    record { upper_bound = e.1; by_index = λ xs H. wrote_as e.0 (shown-long H c.requires.row_len.0 c.if-s.false c.if-row-n.true) }
+pub returns-then-row-kept : goal.returns-then-row-kept
+returns-then-row-kept c = λ xs H. shown-long H c.requires.row_len.0 c.if-kept.false c.if-row-kept.true
 
 pub returns : goal.returns
-returns c =
-    let e = c.show_words.ensures in
-    record { upper_bound = e.1; by_index = λ xs H. wrote_as e.0 (shown-words H c.requires.row_len.0 c.if-s.false c.if-row-n.false) }
+returns c = λ xs H.
+    ap sheet_text (words-first _ _ _ _ c.words_of-count.ensures.words_after c.words_of-count.ensures.value)
+    ∙ shown-words H c.requires.row_len.0 c.if-kept.false c.if-row-kept.false

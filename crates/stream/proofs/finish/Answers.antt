@@ -5,8 +5,5 @@ use Rattle.stream.proofs.finish.Goals as goal
 
 pub returns : goal.returns
 returns c =
-    let e = c.last_line-e.ensures in
-    record {
-      closable = (record { ready = e.ready_2.0; next = λ m. omega arith }, e.ready_2.1);
-      finishes = λ xs said row H. closed-first (e.lists xs said row H);
-    }
+    let e = c.last_line-line.ensures in
+    record { closable = (record { ready = e.ready_2.0; next = omega arith }, e.ready_2.1); finishes = λ xs said row H. closed-first (e.lists xs said row H) }

@@ -4,4 +4,4 @@ use Rattle.tables.proofs.Places.{clear-eight}
 use Rattle.tables.proofs.eight_clear.Goals as goal
 
 pub returns : goal.returns
-returns c e = clear-eight c.args.marks.now c.args.j (eqb-true _ 0 e)
+returns c e = clear-eight c.args.marks.now c.args.at (eqb-true _ 0 e)

@@ -1,10 +1,7 @@
--- The cells that were passed are clear; the measure is what is left.
-use Rattle.std.proofs.Common.{◌-◌, ◌≤◌}
+-- The cells that were passed are clear.
+use Rattle.std.proofs.Common.{◌+◌, ◌*◌, ◌≤◌}
 use Rattle.tables.specs.Scan.{ClearFrom}
 use Rattle.tables.proofs.skip.Given as goal
 
-abbrev pub invariant-loop-j : goal.invariant-loop-j
-invariant-loop-j l = (l.i ≤ l.j) × (l.j ≤ l.size) × ClearFrom l.marks l.i l.j
-
-abbrev pub decreases-loop-j : goal.decreases-loop-j
-decreases-loop-j l = l.size - l.j
+abbrev pub invariant-loop-k : goal.invariant-loop-k
+invariant-loop-k l = ClearFrom l.marks l.from (l.from + 8 * l.k)

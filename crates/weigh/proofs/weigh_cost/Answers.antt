@@ -1,7 +1,6 @@
--- The blocks from 3 on, then the start; the measure is the blocks left.
-use Rattle.std.proofs.Common.{arith}
+-- The blocks from 3 on, then the start.
 use Rattle.weigh.proofs.Rising.{going_start, settled-exit}
 use Rattle.weigh.proofs.weigh_cost.Goals as goal
 
-pub loop-v-init : goal.loop-v-init
-loop-v-init c = (omega arith, going_start c.requires.kept (settled-exit c.requires.kept.fair c.requires.settled))
+pub loop-block-init : goal.loop-block-init
+loop-block-init c = going_start c.requires.kept (settled-exit c.requires.kept.fair c.requires.settled)

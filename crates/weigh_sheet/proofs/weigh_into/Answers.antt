@@ -1,17 +1,33 @@
 -- The row holds the sheet's graph, and weighing it fills the area; then block 1 is looked up at the budget.
+use Rattle.std.proofs.Common.{ap, arith}
+use Rattle.base.specs.Options.{option_in}
+use Rattle.formats.specs.GraphSheet.{Header}
 use Rattle.weigh_sheet.proofs.Answers.{row-ready, start_cell, start-low, fits, fits_not}
 use Rattle.weigh_sheet.proofs.weigh_into.Goals as goal
 
+pub invariant_of-layout : goal.invariant_of-layout
+invariant_of-layout c = record { small = (omega (arith, c.args.sheet.sound.sound.form.blocks.1), c.requires.room.0) }
+
 pub weigh-requires-clause-ready : goal.weigh-requires-clause-ready
-weigh-requires-clause-ready c = row-ready _ _ _ c.requires.s_value.0 c.requires.s_value.1 c.requires.s_value.2 c.decode.ensures
+weigh-requires-clause-ready c =
+    let q = c.args.sheet.sound.header in
+    row-ready _ _ _ (rw q at c.args.sheet.sound.sound) c.requires.room.0 c.requires.room.1 (rw q at c.flatten.ensures.decoded) (ap (λ (h : Header). h.blocks) q)
 
-pub look_up-x-requires-clause-has_cell : goal.look_up-x-requires-clause-has_cell
-look_up-x-requires-clause-has_cell c =
-    let whole = start_cell _ _ _ c.requires.s_value.0 c.requires.s_value.1 c.requires.s_value.2 c.decode.ensures c.weigh.ensures in
-    whole.1
+pub look_up-requires : goal.look_up-requires
+look_up-requires c =
+    let q = c.args.sheet.sound.header in
+    let p = start_cell _ _ _ (rw q at c.args.sheet.sound.sound) c.requires.room.0 c.requires.room.1 (rw q at c.flatten.ensures.decoded)
+    (ap (λ (h : Header). h.blocks) q) c.weigh.ensures in
+    record { inside = (omega arith, p.0, omega arith); has_cell = p.1 }
 
-pub returns-then-x-eq0-clause-value : goal.returns-then-x-eq0-clause-value
-returns-then-x-eq0-clause-value c = fits_not _ _ c.look_up-x.result.low (start-low _ _ _ c.requires.s_value.0 c.requires.s_value.1 c.requires.s_value.2 c.decode.ensures c.weigh.ensures _ c.look_up-x.ensures.low_value) c.if-x-eq0.true
+pub returns-in-None-clause-value : goal.returns-in-None-clause-value
+returns-in-None-clause-value c =
+    let q = c.args.sheet.sound.header in
+    fits_not _ _ (start-low _ _ _ (rw q at c.args.sheet.sound.sound) c.requires.room.0 c.requires.room.1 (rw q at c.flatten.ensures.decoded)
+    (ap (λ (h : Header). h.blocks) q) c.weigh.ensures _ c.look_up.ensures.low_value) (ap option_in c.in-None.is)
 
-pub returns-clause-value : goal.returns-clause-value
-returns-clause-value c = fits _ _ c.look_up-x.result.low (start-low _ _ _ c.requires.s_value.0 c.requires.s_value.1 c.requires.s_value.2 c.decode.ensures c.weigh.ensures _ c.look_up-x.ensures.low_value) c.if-x-eq0.false
+pub returns-in-Some-clause-value : goal.returns-in-Some-clause-value
+returns-in-Some-clause-value c =
+    let q = c.args.sheet.sound.header in
+    fits _ _ (start-low _ _ _ (rw q at c.args.sheet.sound.sound) c.requires.room.0 c.requires.room.1 (rw q at c.flatten.ensures.decoded)
+    (ap (λ (h : Header). h.blocks) q) c.weigh.ensures _ c.look_up.ensures.low_value) (ap option_in c.in-Some.is)

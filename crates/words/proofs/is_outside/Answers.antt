@@ -1,13 +1,12 @@
 -- A number outside two limits, by two tests.
-use Rattle.std.proofs.Common.{rules, arith}
 use borrow.Author.Tests.{lt-ltb, le-ltb}
 use Rattle.base.specs.Checks.{outside}
 use Rattle.words.proofs.is_outside.Goals as goal
 
-pub returns-then-n-lo : goal.returns-then-n-lo
+pub returns-then-number-least : goal.returns-then-number-least
 unfolding outside
-returns-then-n-lo c = simp (lt-ltb _ _ c.if-n-lo.true)
+returns-then-number-least c = simp (lt-ltb _ _ c.if-number-least.true)
 
-pub returns : goal.returns
+pub returns-else-number-least : goal.returns-else-number-least
 unfolding outside
-returns c = simp (le-ltb _ _ c.if-n-lo.false)
+returns-else-number-least c = simp (le-ltb _ _ c.if-number-least.false)

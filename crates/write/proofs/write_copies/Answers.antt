@@ -1,40 +1,46 @@
--- `write::write_copies` meets its contract. With the records of the copies left the row is that of all; the measure is the cells left.
-use Rattle.std.proofs.Common.{refl, sym, ap, ◌∙◌, arith}
-use Rattle.graph_row.proofs.Laws.{next-length}
-use Rattle.tables.proofs.Rest.{cell-fits}
-use Rattle.tables.proofs.Rows.{row-length}
+-- With the records of the copies left the row is that of all.
+use Rattle.std.proofs.Common.{refl, sym, ap, ◌∙◌, arith, length}
 use Rattle.put_words.specs.Put.{put_words}
-use Rattle.write.proofs.Records.{scan-in, written_start, written-fits, written_on, written-end, copy_record, copies-are, copies-fit, copy-put}
+use Rattle.tables.proofs.Rows.{row-length}
+use Rattle.write.proofs.Records.{written_start, here-few, here-fits, written-fits, written_on, written-end, copy_record, copies-are, copies-fit, copy-put}
 use Rattle.write.proofs.write_copies.Goals as goal
 
-pub loop-i-init : goal.loop-i-init
-loop-i-init c =
-    written_start copy_record (scan-in c.requires.flat c.requires.marked c.blocks_in-n.ensures.0 c.cell_count-size.ensures)
-    c.next_marked-i.ensures c.requires.marks_bound _ _ _ refl (copies-fit _ _ _ _ c.requires.marks_in_bounds)
+pub loop-index-init : goal.loop-index-init
+loop-index-init c =
+    let f = c.args.found.now in
+    rw c.into_iter-index-iterator.ensures.into_iter_gives
+    (written_start copy_record c.marked_cells-index-items.ensures (omega (arith, f.edges_counted)) _ _ _ refl
+    (copies-fit _ _ _ _ (omega (arith, c.requires, f.copies_counted))))
 
-pub degree_in-d-requires : goal.degree_in-d-requires
-degree_in-d-requires c =
-    let F = cell-fits c.loop-i.invariant.here.scan c.loop-i-test.true c.cell_at-c.ensures in
-    (F.block.0, F.within.block.1, omega (arith, F.block.1, c.requires.flat.room))
+pub cell_at-copy-requires : goal.cell_at-copy-requires
+cell_at-copy-requires c =
+    let W = rw c.in-Some.ensures.steps at c.loop-index.invariant in
+    here-few copy_record W (c.args.found.now.layout.small.0, c.args.found.now.layout.small.1)
+
+pub successors-degree-requires : goal.successors-degree-requires
+successors-degree-requires c =
+    let W = rw c.in-Some.ensures.steps at c.loop-index.invariant in
+    let F = here-fits copy_record W c.cell_at-copy.ensures in
+    (F.0, omega (arith, F.1, c.args.found.now.blocks))
 
 pub put_three-requires : goal.put_three-requires
 unfolding copy_record
 put_three-requires c =
-    let F = (cell-fits c.loop-i.invariant.here.scan c.loop-i-test.true c.cell_at-c.ensures).within in
-    let f = written-fits copy_record c.loop-i.invariant c.loop-i-test.true c.cell_at-c.ensures in (
-      f.0,
-      omega (arith, F.block),
-      omega (arith, F.cost, F.budget),
-      omega (arith, c.first_edge-first.ensures.0, f.1),
-    )
+    let W = rw c.in-Some.ensures.steps at c.loop-index.invariant in
+    let F = here-fits copy_record W c.cell_at-copy.ensures in
+    let k = written-fits copy_record W c.cell_at-copy.ensures in
+    let s = c.args.found.now.layout.small in
+    (k.0, omega (arith, F, s), omega (arith, F, s), omega (arith, c.first_edge-first.ensures.0, k.1))
 
-pub loop-i-preserved : goal.loop-i-preserved
+pub loop-index-preserved : goal.loop-index-preserved
 unfolding copy_record
-loop-i-preserved c =
-    let F = cell-fits c.loop-i.invariant.here.scan c.loop-i-test.true c.cell_at-c.ensures in
-    let d = c.degree_in-d.ensures.0 ∙ sym (next-length _ _ F.block.0 F.block.1 c.requires.flat) in
-    written_on copy_record c.loop-i.invariant c.loop-i-test.true c.cell_at-c.ensures c.next_marked-i-in-loop-i.ensures
+loop-index-preserved c =
+    let W = rw c.in-Some.ensures.steps at c.loop-index.invariant in
+    let d = ap length c.successors-degree.ensures in
+    written_on copy_record W c.cell_at-copy.ensures
     (copy-put _ _ _ _ _ _ _ c.put_three.ensures (c.first_edge-first.ensures.1 _ (row-length _ _ _ ∙ sym d))) refl (omega (arith, d))
 
 pub returns : goal.returns
-returns c = written-end copy_record c.loop-i.invariant c.loop-i-test.false ∙ ap (put_words _ _) (sym (copies-are 1 _))
+returns c =
+    let W = rw c.in-None.ensures.steps.0 at c.loop-index.invariant in
+    written-end copy_record W ∙ ap (put_words _ _) (sym (copies-are 1 _))

@@ -1,11 +1,10 @@
--- `write::write_copies` meets its contract. With the records of the copies left the row is that of all; the measure is the cells left.
-use Rattle.std.proofs.Common.{◌-◌}
-use Rattle.graph_row.specs.GraphRow.{blocks_in, graph_in}
+-- With the records of the copies left the row is that of all.
+use Rattle.tables.specs.Rest.{rest}
+use Rattle.chain_records.specs.Founds.{graph_of}
 use Rattle.write.proofs.Records.{Written, copy_record}
 use Rattle.write.proofs.write_copies.Given as goal
 
-abbrev pub invariant-loop-i : goal.invariant-loop-i
-invariant-loop-i l = Written copy_record (graph_in l.row) (blocks_in l.row) l.b l.marks l.size l.initial.out l.at l.out l.p l.e l.i
-
-abbrev pub decreases-loop-i : goal.decreases-loop-i
-decreases-loop-i l = l.size - l.i
+abbrev pub invariant-loop-index : goal.invariant-loop-index
+invariant-loop-index l =
+    Written copy_record (graph_of l.found) l.found.layout.blocks l.found.layout.budget l.found.marks.now l.initial.output l.at l.output l.place l.edge
+    (rest l.index-iterator)

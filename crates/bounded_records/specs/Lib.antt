@@ -1,0 +1,3 @@
+-- What the contracts cite beside formats BoundedSheet.
+-- the header of a view of records: heading_in
+pub mod Records

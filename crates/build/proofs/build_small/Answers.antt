@@ -1,9 +1,0 @@
--- The local rows serve the sheet.
-use Rattle.std.proofs.Common.{arith}
-use Rattle.build.proofs.Local.{rows-serve}
-use Rattle.build.proofs.build_small.Goals as goal
-
-pub build_in_rows-requires : goal.build_in_rows-requires
-build_in_rows-requires c =
-    let whole = rows-serve 16 64 63 256 113 34 128 c.requires.passes c.requires.within (omega arith) (omega arith) (omega arith) in
-    record { passes = whole.0; rows = whole.1.0; h_in_bounds = whole.1.1.0; clear = whole.1.1.1 }

@@ -1,2 +1,0 @@
--- the length of a part: part_count
-pub mod Parts

@@ -1,2 +1,0 @@
--- the heading's length: heading-length
-pub mod Heading

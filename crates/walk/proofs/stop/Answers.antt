@@ -1,8 +1,0 @@
--- `walk::stop` meets its contract.
-use Rattle.std.proofs.Common.{refl}
-use Rattle.walk.specs.Walks.{end_of}
-use Rattle.walk.proofs.stop.Goals as goal
-
-pub returns : goal.returns
-unfolding end_of
-returns c = refl

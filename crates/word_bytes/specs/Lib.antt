@@ -1,2 +1,0 @@
--- modes by their numbers, and the room of a text's bytes: mode_of, bytes_size
-pub mod Modes

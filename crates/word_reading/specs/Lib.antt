@@ -1,2 +1,0 @@
--- what the numbers of a reading hold: fault_of, Holds, Able, Turns
-pub mod Held
