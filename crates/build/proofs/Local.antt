@@ -50,11 +50,23 @@ most-cells w h P =
     mul-le-mul {n₁ = (header w).blocks} {m₁ = suc (task w h).largest} {n₂ = most_blocks} {m₂ = suc most_budget} A.sheet.sound.form.blocks.1
     (omega (arith, A.budget))
 
+-- a sheet of at most n blocks, m edges, k cells and a budget of at most b is served by rows that are long enough for these
+pub within-serves : (n m b k x y z : ℕ) {w : List ℕ} {h : ℕ} → (header w).blocks ≤ n → (header w).edges ≤ m → (task w h).largest ≤ b
+    → cell_count (task w h).blocks (task w h).largest ≤ k → 1 + 3 * n + m ≤ x → 2 * n + 2 ≤ y → 2 * b + 2 ≤ z → Serves x y z k w h
+within-serves n m b k x y z {w} {h} p q r l i j c = record {
+  row = omega (arith, p, q, i);
+  nexts = omega (arith, p, j);
+  has = omega (arith, r, c);
+  table = l;
+}
+
 -- ROWS OF ZEROS that serve a sheet are long enough, and clear
 pub rows-serve : (x y z k : ℕ) {w : List ℕ} {h : ℕ} → Serves x y z k w h
     → Rows w (task w h).largest (replicate x 0) (replicate y 0) (replicate z 0)
-    × (cell_count (task w h).blocks (task w h).largest ≤ length (replicate {A = ℕ} k 0))
-rows-serve x y z k {w} {h} S = (
-  zero-rows (header w).blocks (header w).edges (task w h).largest x y z (omega arith) (omega arith) (omega arith) S.row S.nexts S.has,
-  omega (arith, S.table, length-replicate {A = ℕ} k 0),
-)
+    × (((cell_count (task w h).blocks (task w h).largest ≤ length (replicate {A = ℕ} k 0))
+    × (cell_count (task w h).blocks (task w h).largest ≤ length (replicate {A = ℕ} k 0)))
+    × Clear (replicate k 0))
+rows-serve x y z k {w} {h} S =
+    let few : cell_count (task w h).blocks (task w h).largest ≤ length (replicate {A = ℕ} k 0) = omega (arith, S.table, length-replicate {A = ℕ} k 0) in
+    (zero-rows (header w).blocks (header w).edges (task w h).largest x y z (omega arith) (omega arith) (omega arith) S.row S.nexts S.has,
+    ((few, few), zeros-clear k))

@@ -1,18 +1,21 @@
 // Words put into a lent row, some at once, or a part of another row.
-// Rests on formats; a row with words put into it is said by specs Put.
+// Rests on words; a row with words put into it is said by specs Put.
 #![tactic(auto)]
 
 ghost use Rattle.std.specs.Prelude.{◌≡◌, [], ◌∷◌, ◌+◌, ◌<◌, ◌≤◌, length};
 ghost use Rattle.formats.specs.Limits.{word_limit};
 ghost use Rattle.put_words.specs.Put.{put_words};
 
-/// Puts the words of another row.
-#[tactic(auto, unfolding(crate::specs::Put::put_words))]
+use words::word_at;
+
+/// Puts the words of another row. Word by word, and no copy of a slice: that calls for `memmove`, where a caller in C may have `memcpy` and `memset` alone.
 pub fn put_part(out: &mut [u16], at: usize, part: &[u16])
     requires { at + length part.now ≤ length out.old }
     ensures { out.new ≡ put_words out.old at part.now }
 {
-    out[at..at + part.len()].copy_from_slice(part);
+    for i in 0..part.len() {
+        put_one(out, at + i, word_at(part, i));
+    }
 }
 
 /// Puts the words of an array.
