@@ -20,7 +20,7 @@ ghost use Rattle.output.specs.Answer.{answer_at, output_at};
 
 use base::Refusal;
 use cells::Layout;
-use chain_records::Found;
+use chain_records::{Found, Numbered};
 use descend::{TooManyEdges, reach};
 use graph_check::SoundSheet;
 use graph_row::Graph;
@@ -69,12 +69,15 @@ fn build_weighed(
         Err(TooManyEdges) => return Err(Refusal::TooLarge),
     };
     let copies = number(marks, table, layout);
-    let found = Found {
+    let numbered = Numbered {
         graph,
         layout,
-        budgets,
         marks,
         numbers: table,
+    };
+    let found = Found {
+        numbered,
+        budgets,
         copies,
         edges,
     };
