@@ -45,14 +45,14 @@ pub struct LoweredSheet<'a> {
 // BEHIND WEIGHING
 
 // The bounded sheet of a weighed graph within these budgets, of which the layout's is the largest, in rows that are lent.
-fn build_weighed(
-    graph: Graph,
+fn build_weighed<'a>(
+    graph: Graph<'a>,
     layout: Layout,
     area: &[u8],
     table: &mut [u16],
     marks: &mut [u8],
     output: &mut [u16],
-    budgets: &[u16],
+    budgets: &'a [u16],
     second: bool,
 ) -> Result<(), Refusal>
     requires blocks { layout.blocks ≡ blocks_in graph.row.now }
