@@ -20,7 +20,7 @@ ghost use Rattle.output.specs.Answer.{answer_at, output_at};
 
 use base::Refusal;
 use cells::Layout;
-use chain_records::Found;
+use chain_records::{Found, Numbered};
 use descend::{TooManyEdges, reach};
 use graph_check::SoundSheet;
 use graph_row::Graph;
@@ -45,14 +45,14 @@ pub struct LoweredSheet<'a> {
 // BEHIND WEIGHING
 
 // The bounded sheet of a weighed graph within these budgets, of which the layout's is the largest, in rows that are lent.
-fn build_weighed(
-    graph: Graph,
+fn build_weighed<'a>(
+    graph: Graph<'a>,
     layout: Layout,
     area: &[u8],
     table: &mut [u16],
     marks: &mut [u8],
     output: &mut [u16],
-    budgets: &[u16],
+    budgets: &'a [u16],
     second: bool,
 ) -> Result<(), Refusal>
     requires blocks { layout.blocks ≡ blocks_in graph.row.now }
@@ -69,12 +69,15 @@ fn build_weighed(
         Err(TooManyEdges) => return Err(Refusal::TooLarge),
     };
     let copies = number(marks, table, layout);
-    let found = Found {
+    let numbered = Numbered {
         graph,
         layout,
-        budgets,
         marks,
         numbers: table,
+    };
+    let found = Found {
+        numbered,
+        budgets,
         copies,
         edges,
     };

@@ -1,4 +1,4 @@
-// The copies that a build found, and the edge records of one of them. Below the public calls.
+// The copies that are marked and numbered, those that a build found, and the edge records of one of them. Below the public calls.
 // Rests on graph_row, cells, number, put_words.
 #![tactic(auto)]
 
@@ -23,26 +23,35 @@ use graph_row::Graph;
 use number::number_of;
 use put_words::put_two;
 
+/// A graph with marked copies, each of them numbered. No budgets belong to it: which copies are marked is not said.
+#[derive(Clone, Copy, Debug)]
+pub struct Numbered<'a> {
+    pub graph: Graph<'a>,
+    pub layout: Layout,
+    pub marks: &'a [u8],
+    pub numbers: &'a [u16],
+    pub ghost blocks: { layout.blocks ≡ blocks_in graph.row.now },
+    pub ghost marked: { Marked (graph_in graph.row.now) layout.blocks layout.budget marks.now },
+    pub ghost numbered: { Numbers (low_of (graph_in graph.row.now)) layout.blocks layout.budget marks.now numbers.now },
+}
+
 /// The copies of a graph within some budgets, of which the layout's is the largest: all are marked and numbered, and their edges are few.
 #[derive(Clone, Copy, Debug)]
 pub struct Found<'a> {
-    pub graph: Graph<'a>,
-    pub layout: Layout,
+    pub numbered: Numbered<'a>,
     pub budgets: &'a [u16],
-    pub marks: &'a [u8],
-    pub numbers: &'a [u16],
     pub copies: usize,
     pub edges: usize,
-    pub ghost blocks: { layout.blocks ≡ blocks_in graph.row.now },
-    pub ghost claimed: { Claimed budgets.now × (layout.budget ≡ last_of budgets.now) × (is_none (low_of (graph_in graph.row.now) 1 layout.budget) ≡ false) },
-    pub ghost whole: { marked_copies layout.blocks layout.budget marks.now ≡ copies_in (task_in graph.row.now budgets.now layout.budget) },
-    pub ghost marked: { Marked (graph_in graph.row.now) layout.blocks layout.budget marks.now },
-    pub ghost numbered: { Numbers (low_of (graph_in graph.row.now)) layout.blocks layout.budget marks.now numbers.now },
-    pub ghost copies_counted: { copies ≡ length (marked_copies layout.blocks layout.budget marks.now) },
-    pub ghost edges_counted: { (edges ≡ edges_of (graph_in graph.row.now) (marked_copies layout.blocks layout.budget marks.now)) × (edges ≤ most_bounded_edges) },
+    pub ghost claimed: { Claimed budgets.now × (numbered.layout.budget ≡ last_of budgets.now)
+        × (is_none (low_of (graph_in numbered.graph.row.now) 1 numbered.layout.budget) ≡ false) },
+    pub ghost whole: { marked_copies numbered.layout.blocks numbered.layout.budget numbered.marks.now
+        ≡ copies_in (task_in numbered.graph.row.now budgets.now numbered.layout.budget) },
+    pub ghost copies_counted: { copies ≡ length (marked_copies numbered.layout.blocks numbered.layout.budget numbered.marks.now) },
+    pub ghost edges_counted: { (edges ≡ edges_of (graph_in numbered.graph.row.now) (marked_copies numbered.layout.blocks numbered.layout.budget numbered.marks.now))
+        × (edges ≤ most_bounded_edges) },
 }
 
-impl<'a> Found<'a> {
+impl<'a> Numbered<'a> {
     ghost use Rattle.chain_records.specs.Founds.{graph_of, copies_of};
 
     /// The number of the copy that serves so many cycles in a block, 0 where none does.

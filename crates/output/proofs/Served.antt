@@ -16,10 +16,10 @@ module _ (f : Found) where
   pub copies_are : f.copies ≡ length (copies_in (task_of f))
   copies_are = f.copies_counted ∙ ap length f.whole
 
-  pub edges_are : f.edges ≡ edges_of (graph_of f) (copies_in (task_of f))
-  edges_are = f.edges_counted.0 ∙ ap (edges_of (graph_of f)) f.whole
+  pub edges_are : f.edges ≡ edges_of (graph_of f.numbered) (copies_in (task_of f))
+  edges_are = f.edges_counted.0 ∙ ap (edges_of (graph_of f.numbered)) f.whole
 
   -- the entries of the budgets, by the marked copies, are the task's
-  pub entries-are : entries_in f ≡ map (entry_for (task_of f)) f.budgets.now
+  pub entries-are : entries_in f.numbered f.budgets.now ≡ map (entry_for (task_of f)) f.budgets.now
   unfolding entry_for
-  entries-are = ap (λ (cs : List Copy). map (λ c. target_number cs (copy_for (graph_of f) c 1)) f.budgets.now) f.whole
+  entries-are = ap (λ (cs : List Copy). map (λ c. target_number cs (copy_for (graph_of f.numbered) c 1)) f.budgets.now) f.whole

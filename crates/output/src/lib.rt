@@ -22,8 +22,15 @@ fn write_sheet(found: &Found, output: &mut [u16], second: bool)
     ensures { output.new ≡ bounded_for second (task_of found.now) ++ drop (length (bounded_for second (task_of found.now))) output.old }
 {
     let at = heading_size(second, found.budgets.len());
-    write_heading(found, output, second);
-    write_records(found, output, at);
+    write_heading(
+        &found.numbered,
+        found.budgets,
+        found.copies,
+        found.edges,
+        output,
+        second,
+    );
+    write_records(&found.numbered, output, at, found.copies);
 }
 
 /// Writes the bounded sheet into the first words of the output row. `TooLarge` for more than 4,096 copies, `SmallOutput` where the row is too

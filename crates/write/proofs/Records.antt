@@ -169,6 +169,10 @@ module _ (g : Graph) (cs : List Copy) where
   pub edges_fit : (at n : ℕ) → at + 2 * edges_of g cs ≤ n → at + length (records_from edge_record 1 (rows_of g cs)) ≤ n
   edges_fit at n l = omega (arith, ap length (chains-are 1 (rows_of g cs)), edges-length)
 
+  pub records-fit : (at n : ℕ) → at + length (record_words (rows_of g cs)) ≤ n → at + 3 * length cs + 2 * edges_of g cs ≤ n
+  records-fit at n l =
+      omega (arith, length-append (copy_words 1 (rows_of g cs)) (edge_words 1 (rows_of g cs)), copies_length, edges-length)
+
   -- one copy's words
   pub copy-put : (o : List ℕ) (at e v l : ℕ) {f : ℕ} {o' : List ℕ} → o' ≡ put_words o at (v ∷ l ∷ f ∷ [])
       → f ≡ first_edge e (row_of g cs (copy_of v l)).target_words → o' ≡ put_words o at (copy_record e (row_of g cs (copy_of v l)))

@@ -23,16 +23,21 @@ pub returns-in-Err-clause-out_after : goal.returns-in-Err-clause-out_after
 unfolding output_at
 returns-in-Err-clause-out_after c = refl
 
-pub invariant_of-found : goal.invariant_of-found
-invariant_of-found c =
+pub invariant_of-numbered : goal.invariant_of-numbered
+invariant_of-numbered c =
     let R = c.requires in
-    let y = c.in-Ok.ensures in
     record {
       blocks = R.blocks;
-      claimed = R.claimed;
-      whole = y.marks;
-      marked = served-in c.args.graph.flat R.blocks R.claimed (omega (arith, R.room.1, c.reach.auto.marks)) y.marks;
+      marked = served-in c.args.graph.flat R.blocks R.claimed (omega (arith, R.room.1, c.reach.auto.marks)) c.in-Ok.ensures.marks;
       numbered = c.number-copies.ensures.by_index _ (lows-of R.table c.fill_lows.ensures.lows);
+    }
+
+pub invariant_of-found : goal.invariant_of-found
+invariant_of-found c =
+    let y = c.in-Ok.ensures in
+    record {
+      claimed = c.requires.claimed;
+      whole = y.marks;
       copies_counted = c.number-copies.ensures.value;
       edges_counted = (y.edges.0 ∙ ap (edges_of (graph_in c.args.graph.row.now)) (sym y.marks), y.edges.1);
     }

@@ -5,5 +5,5 @@ use Rattle.heading_words.proofs.write_second.Goals as goal
 
 pub returns : goal.returns
 returns c =
-    let f = c.args.found.now in
-    put_second c.args.output.now f.budgets.now (entries_in f) f.copies f.edges c.put_two.ensures c.put_two-2.ensures c.put_part.ensures c.put_entries.ensures
+    let bs = c.args.budgets.now in
+    put_second c.args.output.now bs (entries_in c.args.numbered.now bs) c.args.copies c.args.edges c.put_two.ensures c.put_two-2.ensures c.put_part.ensures c.put_entries.ensures

@@ -7,21 +7,19 @@ use Rattle.write.proofs.write_copies.Goals as goal
 
 pub loop-index-init : goal.loop-index-init
 loop-index-init c =
-    let f = c.args.found.now in
     rw c.into_iter-index-iterator.ensures.into_iter_gives
-    (written_start copy_record c.marked_cells-index-items.ensures (omega (arith, f.edges_counted)) _ _ _ refl
-    (copies-fit _ _ _ _ (omega (arith, c.requires, f.copies_counted))))
+    (written_start copy_record c.marked_cells-index-items.ensures c.requires.few _ _ _ refl (copies-fit _ _ _ _ c.requires.room))
 
 pub cell_at-copy-requires : goal.cell_at-copy-requires
 cell_at-copy-requires c =
     let W = rw c.in-Some.ensures.steps at c.loop-index.invariant in
-    here-few copy_record W (c.args.found.now.layout.small.0, c.args.found.now.layout.small.1)
+    here-few copy_record W (c.args.numbered.now.layout.small.0, c.args.numbered.now.layout.small.1)
 
 pub successors-degree-requires : goal.successors-degree-requires
 successors-degree-requires c =
     let W = rw c.in-Some.ensures.steps at c.loop-index.invariant in
     let F = here-fits copy_record W c.cell_at-copy.ensures in
-    (F.0, omega (arith, F.1, c.args.found.now.blocks))
+    (F.0, omega (arith, F.1, c.args.numbered.now.blocks))
 
 pub put_three-requires : goal.put_three-requires
 unfolding copy_record
@@ -29,7 +27,7 @@ put_three-requires c =
     let W = rw c.in-Some.ensures.steps at c.loop-index.invariant in
     let F = here-fits copy_record W c.cell_at-copy.ensures in
     let k = written-fits copy_record W c.cell_at-copy.ensures in
-    let s = c.args.found.now.layout.small in
+    let s = c.args.numbered.now.layout.small in
     (k.0, omega (arith, F, s), omega (arith, F, s), omega (arith, c.first_edge-first.ensures.0, k.1))
 
 pub loop-index-preserved : goal.loop-index-preserved

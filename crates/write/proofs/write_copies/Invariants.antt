@@ -6,5 +6,5 @@ use Rattle.write.proofs.write_copies.Given as goal
 
 abbrev pub invariant-loop-index : goal.invariant-loop-index
 invariant-loop-index l =
-    Written copy_record (graph_of l.found) l.found.layout.blocks l.found.layout.budget l.found.marks.now l.initial.output l.at l.output l.place l.edge
+    Written copy_record (graph_of l.numbered) l.numbered.layout.blocks l.numbered.layout.budget l.numbered.marks.now l.initial.output l.at l.output l.place l.edge
     (rest l.index-iterator)

@@ -7,5 +7,5 @@ use Rattle.write.proofs.write_edges.Given as goal
 
 abbrev pub invariant-loop-index : goal.invariant-loop-index
 invariant-loop-index l =
-    Written edge_record (graph_of l.found) l.found.layout.blocks l.found.layout.budget l.found.marks.now l.initial.output l.at l.output (place l.at l.edge) l.edge
+    Written edge_record (graph_of l.numbered) l.numbered.layout.blocks l.numbered.layout.budget l.numbered.marks.now l.initial.output l.at l.output (place l.at l.edge) l.edge
     (rest l.index-iterator)

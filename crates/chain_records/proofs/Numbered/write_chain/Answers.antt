@@ -5,7 +5,7 @@ use Rattle.graph_row.proofs.Successors.{listed-fits}
 use Rattle.put_words.specs.Put.{put_words}
 use Rattle.chain_records.specs.Founds.{graph_of, copies_of}
 use Rattle.chain_records.proofs.Chain.{words, place, walked_on, walked_end, chain_words}
-use Rattle.chain_records.proofs.Found.write_chain.Goals as goal
+use Rattle.chain_records.proofs.Numbered.write_chain.Goals as goal
 
 pub number-number-requires : goal.number-number-requires
 number-number-requires c =

@@ -2,7 +2,7 @@
 use Rattle.std.proofs.Common.{◌∙◌, arith}
 use Rattle.base.proofs.Cells.{cell-inside}
 use Rattle.number.proofs.Looking.{entry-small, number_is}
-use Rattle.chain_records.proofs.Found.number.Goals as goal
+use Rattle.chain_records.proofs.Numbered.number.Goals as goal
 
 pub number_of-requires : goal.number_of-requires
 number_of-requires c =
