@@ -76,23 +76,7 @@ module _ {bs : List ℕ} {t : Tally} {marks : Marks} {text : List ℕ} {e : Step
         lines = line-behind fs f S.lines (N.line fs _ S.stands (front-of body q)).front ∙ ap (each_sheet sheet_line 1) (sym (figures-more bodies body));
       }
 
--- A SHEET IS WHOLE: what comes then is a length, where another sheet may come
-
-may-of : (more : Bool) → may_come (if more then Between else Full) ≡ more
-may-of true = refl
-may-of false = refl
-
-module _ {bs : List ℕ} {t : Tally} {marks : Marks} {text : List ℕ} {e : Step} {marks' : Marks} {text' : List ℕ} (N : Next (Some bs) t marks e marks' text text')
-    {f : Frame} (q : f ≡ (if e.more then Between else Full)) where
-  pub step-closes : Closes bs t marks text (record { now = record { tally = e.tally; frame = f }; size = e.size }) marks' text'
-  step-closes = record {
-    line = record { line = N.line; after = N.after; more = ap may_come q ∙ may-of e.more ∙ N.more };
-    frame = q ∙ ap (λ (m : Bool). if m then Between else Full) N.more;
-  }
-
-  pub step-next : may_come f ≡ true → e.tally.place < most_sheets
-  step-next m = ltb-true e.tally.place most_sheets (sym N.more ∙ sym (may-of e.more) ∙ sym (ap may_come q) ∙ m)
-
+-- A SHEET IS WHOLE
 
 -- behind p sheets and nothing
 abbrev Framed : List ℕ → ℕ → Frame → Type 0
