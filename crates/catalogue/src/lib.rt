@@ -81,12 +81,7 @@ fn may_come(cut: bool, place: usize) -> bool
 }
 
 /// Reports the next sheet, from its first bytes, none where its length was beyond the words left.
-pub fn next_sheet(
-    bytes: Option<&[u8]>,
-    tally: Tally,
-    marks: &mut [u8],
-    text: &mut [u8],
-) -> Step
+pub fn next_sheet(bytes: Option<&[u8]>, tally: Tally, marks: &mut [u8], text: &mut [u8]) -> Step
     requires bytes_len_bound { IfSome (option_copied bytes) (λ bs. length bs ≤ longer_file) }
     requires ready { Ready tally marks.old × (tally.place < most_sheets) }
     requires sheet_room_in_bounds { sheet_room ≤ length text.old }

@@ -99,11 +99,7 @@ fn print_parts<W: Write>(first: Closing, marks: &[u8], writer: &mut W) -> Result
 }
 
 // Writes what is still to be printed.
-fn print_last<W: Write>(
-    progress: Progress,
-    marks: &mut [u8],
-    writer: &mut W,
-) -> Result<(), Failure>
+fn print_last<W: Write>(progress: Progress, marks: &mut [u8], writer: &mut W) -> Result<(), Failure>
     requires { Ready progress.tally marks.old × (may_come progress.frame ≡ true → progress.tally.place < most_sheets) }
     ensures ok { OnOk result (Finishes (W.contents writer.old) progress marks.old (W.contents writer.new)) }
     ensures failure { IfErr result OfOutput }
