@@ -2,7 +2,7 @@
 pub mod Marks
 -- one sheet more, behind those so far: lines_more, sums-more, most-more, chosen_more
 pub mod More
--- what a tally and the marks stand for with one sheet more, and with none: next_of, stands-first
+-- what a tally and the marks stand for with one sheet more, and with none: cut-of, next_of, stands-first
 pub mod Stands
 -- the closing parts: total-part, most-part, unused-part
 pub mod Closing

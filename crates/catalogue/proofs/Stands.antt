@@ -2,14 +2,16 @@
 -- Rests on formats Limits and Report, digits Due, tally Tallies, sheet_figures Says, figures Reports, specs Standing, Marks, More.
 use mathlib.Core.Path.{◌≡◌, refl, sym, ap, ◌∙◌}
 use mathlib.Core.Logic.{◌⊎◌, inl, inr}
-use Rattle.std.specs.Prelude.{Option as Bytes}
+use mathlib.Core.Bool.{Bool, ◌&&◌, not}
+use Rattle.std.specs.Prelude.{Option as Bytes, Some, None, is_some, is_none, option_map}
 use mathlib.Core.List.{List, [], ◌∷◌, ◌++◌}
 use mathlib.Core.Option.{Option, some, none-ne-some}
 use Prim.Native.Nat.{ℕ, suc, ◌+◌, ◌*◌, ◌≤◌, ◌<◌}
 use native.Mathlib.Omega.{arith}
+use lib.Dec.{ltb}
 use lib.ListN.{length, take, length-append}
 use Rattle.base.specs.Lists.{chosen}
-use Rattle.formats.specs.Limits.{most_blocks}
+use Rattle.formats.specs.Limits.{most_blocks, most_sheets}
 use Rattle.formats.specs.Report.{Figures, Sums, no_sums, plus, sums, Most, no_most, greater, most_of, most, sheet_line}
 use Rattle.calls.specs.Report.{figures}
 use Rattle.digits.proofs.Due.{wrote_as}
@@ -43,6 +45,11 @@ said : {bytes : Bytes (List ℕ)} {part : Marks} {row text : List ℕ} {o : Opti
 said beyond R = R.beyond refl
 said (whole fs) R = R.whole fs refl
 
+-- whether a sheet is cut, by the value behind a reference
+pub cut-of : {A B : Type 0} (f : A → B) (o : Bytes A) (cut : Bool) → is_some o ≡ not cut → not cut ≡ not (is_none (option_map f o))
+cut-of f None cut e = sym e
+cut-of f (Some x) cut e = sym e
+
 -- ONE SHEET MORE: its part of the marks stands behind those of the p sheets so far
 abbrev put_marks : ℕ → Marks → Marks → Marks → Marks
 put_marks p old part rest = take (p * most_blocks) old ++ (part ++ rest)
@@ -75,11 +82,13 @@ module _ (t t' : Tally) (r : Reported) (old part rest : Marks) (T : Tallied (fig
           ap (λ (j : ℕ). marked_blocks (marks_of j (put_marks t.place old part rest))) (x.0 ∙ sym D.place)
           ∙ ap marked_blocks (own-marks t.place old part rest room size) ∙ S.unused ∙ ap (λ (h : Figures). h.unused) x.1
 
-  pub next_of : {bytes : Bytes (List ℕ)} {row text : List ℕ} → Reports bytes (t.place + 1) r part row text
-      → Next bytes t old (record { now = t'; size = r.size }) (put_marks t.place old part rest) row text
-  next_of R = record {
+  pub next_of : {bytes : Bytes (List ℕ)} {row text : List ℕ} {more : Bool} → Reports bytes (t.place + 1) r part row text
+      → more ≡ (not (is_none bytes) && ltb t'.place most_sheets)
+      → Next bytes t old (record { tally = t'; size = r.size; more = more }) (put_marks t.place old part rest) row text
+  next_of R e = record {
     line = λ fs o D F.
         let p : t.place + 1 ≡ suc (length fs) = omega (arith, D.place) in
         wrote_as (said F R).line (ap (λ (k : ℕ). sheet_line k (figures o)) p);
     after = λ fs o D F. stands_after fs (figures o) D (said F R);
+    more = e;
   }

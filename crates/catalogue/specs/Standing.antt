@@ -1,6 +1,6 @@
 -- What a tally and a row of marks stand for: the figures of the sheets so far; and what one sheet more makes of them.
 -- Rests on base Lists, formats Limits, File and Report, calls Report, file_words Longer, digits Wrote, unused Marks, tally Tallies.
-use Rattle.std.specs.Prelude.{◌≡◌, List, [], ◌∷◌, ◌++◌, ℕ, suc, ◌*◌, ◌≤◌, length, take, drop, Some, None}
+use Rattle.std.specs.Prelude.{◌≡◌, ◌&&◌, not, List, [], ◌∷◌, ◌++◌, ℕ, suc, ◌*◌, ◌≤◌, ltb, length, take, drop, Some, None, is_none}
 use Rattle.std.specs.Prelude.{Option as Bytes}
 use Rattle.std.proofs.Math.Option.{Option, some, none}
 use Rattle.base.specs.Lists.{chosen}
@@ -13,7 +13,7 @@ use Rattle.digits.specs.Wrote.{Wrote}
 use Rattle.unused.specs.Marks.{Marks, marked_blocks}
 use Rattle.tally.specs.declared.Tally.{Tally}
 use Rattle.tally.specs.Tallies.{sums_of, most_from, Fits}
-use Rattle.catalogue.specs.declared.Handed.{Handed}
+use Rattle.catalogue.specs.declared.Step.{Step}
 
 -- no more sheets than a catalogue may have, and a mark for each block of each
 pub record Ready (t : Tally) (marks : Marks) : Type 0 where
@@ -37,9 +37,10 @@ pub data Front : Bytes (List ℕ) → Option (List ℕ) → Type 0 where
   beyond : Front None none
   whole : (fs : List ℕ) → Front (Some (take longer_file fs)) (some (words_of fs))
 
--- ONE SHEET MORE: its line, written into a row, and what the tally and the marks stand for then
-pub record Next (bytes : Bytes (List ℕ)) (t : Tally) (old : Marks) (r : Handed Tally) (new : Marks) (row text : List ℕ) : Type 0 where
+-- ONE SHEET MORE: its line, written into a row, what the tally and the marks stand for then, and whether another sheet may come
+pub record Next (bytes : Bytes (List ℕ)) (t : Tally) (old : Marks) (r : Step) (new : Marks) (row text : List ℕ) : Type 0 where
   pub line : (fs : List Figures) (o : Option (List ℕ)) → Standing fs t old → Front bytes o
       → Wrote row 0 (sheet_line (suc (length fs)) (figures o)) text r.size
   pub after : (fs : List Figures) (o : Option (List ℕ)) → Standing fs t old → Front bytes o
-      → Standing (fs ++ (figures o ∷ [])) r.now new
+      → Standing (fs ++ (figures o ∷ [])) r.tally new
+  pub more : r.more ≡ (not (is_none bytes) && ltb r.tally.place most_sheets)

@@ -2,7 +2,7 @@
 // Rests on figures, tally, report_lines, unused_lines; lines and parts in order are the report (proofs Whole).
 #![tactic(auto)]
 
-ghost use Rattle.std.specs.Prelude.{◌≡◌, suc, List, ◌+◌, ◌≤◌, ◌<◌, length, IfSome};
+ghost use Rattle.std.specs.Prelude.{◌≡◌, ◌&&◌, not, suc, List, ◌+◌, ◌≤◌, ◌<◌, ltb, length, IfSome};
 ghost use Rattle.std.specs.Option.{option_copied};
 ghost use Rattle.formats.specs.Limits.{most_sheets};
 ghost use Rattle.formats.specs.Report.{Figures};
@@ -30,6 +30,14 @@ pub const MARKS: usize = MOST_SHEETS * MOST_BLOCKS;
 pub struct Handed<T> {
     pub now: T,
     pub size: usize,
+}
+
+/// A tally with one sheet more, the length of that sheet's line, and whether another sheet may come.
+#[derive(Clone, Copy, Debug, PartialEq, Eq)]
+pub struct Step {
+    pub tally: Tally,
+    pub size: usize,
+    pub more: bool,
 }
 
 /// A part of a report behind its sheets' lines.
@@ -62,19 +70,25 @@ impl Part {
     }
 }
 
-/// Reports the next sheet, from its first bytes, none where its length was beyond the words left: the tally with it, and the length of its line.
-pub fn next_sheet(
-    bytes: Option<&[u8]>,
-    tally: Tally,
-    marks: &mut [bool],
-    text: &mut [u8],
-) -> Handed<Tally>
+// Whether another sheet may come behind the one at a place.
+fn may_come(cut: bool, place: usize) -> bool
+    ensures { result ≡ (not cut && ltb place most_sheets) }
+{
+    if cut {
+        return false;
+    }
+    place < MOST_SHEETS
+}
+
+/// Reports the next sheet, from its first bytes, none where its length was beyond the words left.
+pub fn next_sheet(bytes: Option<&[u8]>, tally: Tally, marks: &mut [u8], text: &mut [u8]) -> Step
     requires bytes_len_bound { IfSome (option_copied bytes) (λ bs. length bs ≤ longer_file) }
     requires ready { Ready tally marks.old × (tally.place < most_sheets) }
     requires sheet_room_in_bounds { sheet_room ≤ length text.old }
-    ensures ready_2 { Ready result.now marks.new × (result.size ≤ length text.new) × (tally.place < result.now.place) }
+    ensures ready_2 { Ready result.tally marks.new × (result.size ≤ length text.new) × (tally.place < result.tally.place) }
     ensures next { Next (option_copied bytes.entry) tally marks.old result marks.new text.old text.new }
 {
+    let cut = bytes.is_none();
     let at = tally.place * MOST_BLOCKS;
     let said = report_item(
         bytes,
@@ -83,14 +97,16 @@ pub fn next_sheet(
         text,
     );
     let next = tally.with_sheet(said.blocks, said.copies, said.edges);
-    Handed {
-        now: next,
+    let more = may_come(cut, next.place);
+    Step {
+        tally: next,
         size: said.size,
+        more,
     }
 }
 
 /// Writes a closing part, and answers its length.
-pub fn closing_part(part: Part, tally: Tally, marks: &[bool], text: &mut [u8]) -> usize
+pub fn closing_part(part: Part, tally: Tally, marks: &[u8], text: &mut [u8]) -> usize
     requires ready { Ready tally marks.now × (place_of part < tally.place + 2) }
     requires unused_room_in_bounds { unused_room ≤ length text.old }
     ensures upper_bound { result ≤ length text.new }

@@ -26,7 +26,7 @@ fn report_in_rows(
     area: &mut [u8],
     out: &mut [u16],
     place: usize,
-    marks: &mut [bool],
+    marks: &mut [u8],
     text: &mut [u8],
 ) -> Reported
     requires most_cells_in_bounds { (most_cells ≤ length area.old) × (most_words ≤ length out.old) }
@@ -42,7 +42,7 @@ fn report_in_rows(
 }
 
 // What is said of the graph sheet at a place of a catalogue; its rows are local, once.
-fn report_sheet(words: &[u16], place: usize, marks: &mut [bool], text: &mut [u8]) -> Reported
+fn report_sheet(words: &[u16], place: usize, marks: &mut [u8], text: &mut [u8]) -> Reported
     requires place_lt_number_limit { place < number_limit }
     requires marks_len { length marks.old ≡ most_blocks }
     requires sheet_room_in_bounds { sheet_room ≤ length text.old }
@@ -54,7 +54,7 @@ fn report_sheet(words: &[u16], place: usize, marks: &mut [bool], text: &mut [u8]
 }
 
 // What is said of a sheet from its first bytes.
-fn report_whole(bytes: &[u8], place: usize, marks: &mut [bool], text: &mut [u8]) -> Reported
+fn report_whole(bytes: &[u8], place: usize, marks: &mut [u8], text: &mut [u8]) -> Reported
     requires bytes_len_bound { length bytes.now ≤ longer_file }
     requires place_lt_number_limit { place < number_limit }
     requires marks_len { length marks.old ≡ most_blocks }
@@ -71,7 +71,7 @@ fn report_whole(bytes: &[u8], place: usize, marks: &mut [bool], text: &mut [u8])
 pub fn report_item(
     bytes: Option<&[u8]>,
     place: usize,
-    marks: &mut [bool],
+    marks: &mut [u8],
     text: &mut [u8],
 ) -> Reported
     requires bytes_len_bound { IfSome (option_copied bytes) (λ bs. length bs ≤ longer_file) }

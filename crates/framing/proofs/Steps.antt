@@ -18,6 +18,7 @@ use Rattle.file_words.specs.Longer.{longer_file}
 use Rattle.tally.specs.declared.Tally.{Tally}
 use lib.Dec.{ltb}
 use Rattle.catalogue.specs.declared.Handed.{Handed}
+use Rattle.catalogue.specs.declared.Step.{Step}
 use Rattle.catalogue.specs.Standing.{Standing, Front, whole, Next}
 use Rattle.catalogue.proofs.More.{lines_more}
 use Rattle.framing.specs.declared.Progress.{Progress}
@@ -62,16 +63,16 @@ line-behind fs f e w =
 front-of : {bs : List ℕ} (body : List ℕ) → bs ≡ take longer_file body → Front (Some bs) (some (words_of body))
 front-of body q = subst (λ (w : List ℕ). Front (Some w) (some (words_of body))) (sym q) (whole body)
 
-module _ {bs : List ℕ} {t : Tally} {marks : Marks} {text : List ℕ} {e : Handed Tally} {marks' : Marks} {text' : List ℕ} (N : Next (Some bs) t marks e marks' text text') where
+module _ {bs : List ℕ} {t : Tally} {marks : Marks} {text : List ℕ} {e : Step} {marks' : Marks} {text' : List ℕ} (N : Next (Some bs) t marks e marks' text text') where
   pub sheet-more : (xs said : List ℕ) (bodies : List (List ℕ)) (a b : ℕ) (body : List ℕ) → Sheets xs said bodies t marks
       → length body ≡ 2 * (a + 256 * b) → bs ≡ take longer_file body
-      → Sheets (xs ++ (a ∷ b ∷ body)) (said ++ take e.size text') (bodies ++ (body ∷ [])) e.now marks'
+      → Sheets (xs ++ (a ∷ b ∷ body)) (said ++ take e.size text') (bodies ++ (body ∷ [])) e.tally marks'
   sheet-more xs said bodies a b body S l q =
       let fs = figures_of bodies in
       let f = figures (some (words_of body)) in
       record {
         whole = more xs bodies a b body S.whole l;
-        stands = subst (λ (gs : List Figures). Standing gs e.now marks') (sym (figures-more bodies body)) (N.after fs _ S.stands (front-of body q));
+        stands = subst (λ (gs : List Figures). Standing gs e.tally marks') (sym (figures-more bodies body)) (N.after fs _ S.stands (front-of body q));
         lines = line-behind fs f S.lines (N.line fs _ S.stands (front-of body q)).front ∙ ap (each_sheet sheet_line 1) (sym (figures-more bodies body));
       }
 

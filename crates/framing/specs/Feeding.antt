@@ -35,7 +35,7 @@ pub record Able (s : Progress) (row : List ℕ) (marks : Marks) : Type 0 where
 
 -- a sheet that came whole has its line; what comes then is a length
 pub record Closes (bs : List ℕ) (t : Tally) (marks : Marks) (text : List ℕ) (r : Handed Progress) (marks' : Marks) (text' : List ℕ) : Type 0 where
-  pub line : Next (Some bs) t marks (record { now = r.now.tally; size = r.size }) marks' text text'
+  pub line : Next (Some bs) t marks (record { tally = r.now.tally; size = r.size; more = may_come r.now.frame }) marks' text text'
   pub frame : r.now.frame ≡ (if ltb r.now.tally.place most_sheets then Between else Full)
 
 -- the bytes xs came, and what is handed back for the last of them stands in the front of a text; the rest of the text is as it was

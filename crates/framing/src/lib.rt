@@ -2,7 +2,7 @@
 // Rests on catalogue, kept and file_words; what the state and the rows stand for is specs Came. Below stream and the report program.
 #![tactic(auto)]
 
-ghost use Rattle.std.specs.Prelude.{◌≡◌, Bool, List, [], ℕ, ◌*◌, ◌≤◌, ◌<◌, length, true};
+ghost use Rattle.std.specs.Prelude.{◌≡◌, List, [], ℕ, ◌*◌, ◌≤◌, ◌<◌, length, true};
 ghost use Rattle.formats.specs.Limits.{most_blocks, most_sheets};
 ghost use Rattle.file_words.specs.Longer.{longer_file};
 ghost use Rattle.sheet_lines.specs.Room.{sheet_room};
@@ -10,7 +10,7 @@ ghost use Rattle.catalogue.specs.Standing.{Ready};
 ghost use Rattle.framing.specs.Came.{may_come, Came};
 ghost use Rattle.framing.specs.Feeding.{Able, Closes, Feeds, half_of, within_of};
 
-use catalogue::{Handed, MOST_SHEETS, next_sheet};
+use catalogue::{Handed, next_sheet};
 use file_words::joined;
 use kept::keep_byte;
 use tally::Tally;
@@ -37,8 +37,8 @@ pub struct Progress {
 
 /// Nothing came yet.
 pub fn begin() -> Progress
-    ensures by_index { (row : List ℕ) (marks : List Bool) → Came [] [] result row marks }
-    ensures by_index_2 { (row : List ℕ) (marks : List Bool) → length row ≡ longer_file → length marks ≡ most_sheets * most_blocks → Able result row marks }
+    ensures by_index { (row marks : List ℕ) → Came [] [] result row marks }
+    ensures by_index_2 { (row marks : List ℕ) → length row ≡ longer_file → length marks ≡ most_sheets * most_blocks → Able result row marks }
 {
     Progress {
         tally: Tally::start(),
@@ -47,7 +47,7 @@ pub fn begin() -> Progress
 }
 
 // A sheet is whole: its line, and what comes then is the next length, if another sheet may come.
-fn whole_sheet(bytes: &[u8], tally: Tally, marks: &mut [bool], text: &mut [u8]) -> Handed<Progress>
+fn whole_sheet(bytes: &[u8], tally: Tally, marks: &mut [u8], text: &mut [u8]) -> Handed<Progress>
     requires bytes_len_bound { length bytes.now ≤ longer_file }
     requires ready { Ready tally marks.old × (tally.place < most_sheets) }
     requires sheet_room_in_bounds { sheet_room ≤ length text.old }
@@ -55,18 +55,18 @@ fn whole_sheet(bytes: &[u8], tally: Tally, marks: &mut [bool], text: &mut [u8]) 
     ensures size_in_bounds { result.size ≤ length text.new }
     ensures closes { Closes bytes.now tally marks.old text.old result marks.new text.new }
 {
-    let line = next_sheet(Some(bytes), tally, marks, text);
-    let frame = if line.now.place < MOST_SHEETS {
+    let step = next_sheet(Some(bytes), tally, marks, text);
+    let frame = if step.more {
         Frame::Between
     } else {
         Frame::Full
     };
     Handed {
         now: Progress {
-            tally: line.now,
+            tally: step.tally,
             frame,
         },
-        size: line.size,
+        size: step.size,
     }
 }
 
@@ -77,7 +77,7 @@ fn sheet_byte(
     count: usize,
     byte: u8,
     row: &mut [u8],
-    marks: &mut [bool],
+    marks: &mut [u8],
     text: &mut [u8],
 ) -> Handed<Progress>
     requires able { Able (within_of tally left count) row.old marks.old }
@@ -107,7 +107,7 @@ fn length_byte(
     low: u8,
     byte: u8,
     row: &[u8],
-    marks: &mut [bool],
+    marks: &mut [u8],
     text: &mut [u8],
 ) -> Handed<Progress>
     requires able { Able (half_of tally low) row.now marks.old }
@@ -136,7 +136,7 @@ pub fn feed_byte(
     progress: Progress,
     byte: u8,
     row: &mut [u8],
-    marks: &mut [bool],
+    marks: &mut [u8],
     text: &mut [u8],
 ) -> Handed<Progress>
     requires able { Able progress row.old marks.old }

@@ -2,7 +2,7 @@
 // Rests on input, framing and stream, where the text is made; this decides nothing but when to stop: at the end, at a failure, or where no sheet may come.
 #![tactic(auto)]
 
-ghost use Rattle.std.specs.Prelude.{◌<◌, ◌*◌, true, ◌≡◌, Bool, List, ℕ, length, IfOk, IfErr, OnOk, OnErr, IfSome};
+ghost use Rattle.std.specs.Prelude.{◌<◌, ◌*◌, true, ◌≡◌, List, ℕ, length, IfOk, IfErr, OnOk, OnErr, IfSome};
 ghost use Rattle.std.specs.Io.KnownBytes.{Appends};
 ghost use Rattle.formats.specs.Limits.{most_blocks, most_sheets};
 ghost use Rattle.calls.specs.Report.{report};
@@ -30,7 +30,7 @@ fn feed_piece<W: Write>(
     first: Progress,
     bytes: &[u8],
     row: &mut [u8],
-    marks: &mut [bool],
+    marks: &mut [u8],
     writer: &mut W,
 ) -> Result<Progress, Failure>
     requires { Able first row.old marks.old }
@@ -55,7 +55,7 @@ fn feed_piece<W: Write>(
 fn read_catalogue<R: Read, W: Write>(
     reader: &mut R,
     row: &mut [u8],
-    marks: &mut [bool],
+    marks: &mut [u8],
     writer: &mut W,
 ) -> Result<Progress, Failure>
     requires { (length row.old ≡ longer_file) × (length marks.old ≡ most_sheets * most_blocks) }
@@ -83,7 +83,7 @@ fn read_catalogue<R: Read, W: Write>(
 }
 
 // Writes the closing parts.
-fn print_parts<W: Write>(first: Closing, marks: &[bool], writer: &mut W) -> Result<(), Failure>
+fn print_parts<W: Write>(first: Closing, marks: &[u8], writer: &mut W) -> Result<(), Failure>
     requires { Closable first marks.now }
     ensures ok { OnOk result (Closes (W.contents writer.old) first marks.now (W.contents writer.new)) }
     ensures failure { IfErr result OfOutput }
@@ -99,11 +99,7 @@ fn print_parts<W: Write>(first: Closing, marks: &[bool], writer: &mut W) -> Resu
 }
 
 // Writes what is still to be printed.
-fn print_last<W: Write>(
-    progress: Progress,
-    marks: &mut [bool],
-    writer: &mut W,
-) -> Result<(), Failure>
+fn print_last<W: Write>(progress: Progress, marks: &mut [u8], writer: &mut W) -> Result<(), Failure>
     requires { Ready progress.tally marks.old × (may_come progress.frame ≡ true → progress.tally.place < most_sheets) }
     ensures ok { OnOk result (Finishes (W.contents writer.old) progress marks.old (W.contents writer.new)) }
     ensures failure { IfErr result OfOutput }
@@ -118,12 +114,12 @@ fn print_last<W: Write>(
 pub fn run<R: Read, W: Write>(reader: &mut R, writer: &mut W) -> Result<(), Failure>
     ensures ok { OnOk result (IfSome (R.remaining reader.old)
         (λ xs. Appends (W.contents writer.old) (W.contents writer.new) (report xs))) }
-    ensures unread { IfErr result (λ e. OfInput e → (row : List ℕ) × (marks : List Bool)
+    ensures unread { IfErr result (λ e. OfInput e → (row : List ℕ) × (marks : List ℕ)
         × Unread (R.remaining reader.old) (R.remaining reader.new) (W.contents writer.old) (W.contents writer.new) row marks) }
     ensures failure { IfErr result OfInputOrOutput }
 {
     let mut row = [0u8; LONGER_FILE];
-    let mut marks = [false; MARKS];
+    let mut marks = [0u8; MARKS];
     let progress = read_catalogue(reader, &mut row, &mut marks, writer)?;
     print_last(progress, &mut marks, writer)
 }

@@ -31,7 +31,7 @@ pub struct Reported {
 }
 
 /// What is said of a refused sheet.
-pub fn report_refused(number: usize, place: usize, marks: &mut [bool], text: &mut [u8]) -> Reported
+pub fn report_refused(number: usize, place: usize, marks: &mut [u8], text: &mut [u8]) -> Reported
     requires number_nonzero { (0 < number) × (number < number_limit) × (place < number_limit) }
     requires marks_len { length marks.old ≡ most_blocks }
     requires sheet_room_in_bounds { sheet_room ≤ length text.old }
@@ -53,7 +53,7 @@ pub fn report_built(
     row: &[u16],
     area: &[u8],
     place: usize,
-    marks: &mut [bool],
+    marks: &mut [u8],
     text: &mut [u8],
 ) -> Reported
     requires words_value { refused listing_order words.now ≡ 0 }
@@ -78,7 +78,7 @@ pub fn report_built(
 }
 
 /// What is said of a length beyond the words left.
-pub fn report_cut(place: usize, marks: &mut [bool], text: &mut [u8]) -> Reported
+pub fn report_cut(place: usize, marks: &mut [u8], text: &mut [u8]) -> Reported
     requires place_lt_number_limit { place < number_limit }
     requires marks_len { length marks.old ≡ most_blocks }
     requires sheet_room_in_bounds { sheet_room ≤ length text.old }

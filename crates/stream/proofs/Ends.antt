@@ -20,6 +20,7 @@ use Rattle.calls.specs.Report.{figures, report}
 use Rattle.digits.specs.Wrote.{Wrote}
 use Rattle.tally.specs.declared.Tally.{Tally}
 use Rattle.catalogue.specs.declared.Handed.{Handed}
+use Rattle.catalogue.specs.declared.Step.{Step}
 use Rattle.catalogue.specs.declared.Part.{Part}
 use Rattle.catalogue.specs.declared.Part.TheVariants.{Totals}
 use Rattle.catalogue.specs.Standing.{Standing, beyond, Next}
@@ -119,14 +120,14 @@ module _ {xs said : List ℕ} {s : Progress} {row : List ℕ} {marks : Marks} (H
         behind = refl;
       }
 
-  pub listed-cut : {text : List ℕ} {r : Handed Tally} {marks' : Marks} {text' : List ℕ} → Next None s.tally marks r marks' text text'
-      → all_figures xs ≡ figures_of H.bodies ++ (figures none ∷ []) → Listed xs said text r marks' text'
+  pub listed-cut : {text : List ℕ} {r : Step} {marks' : Marks} {text' : List ℕ} → Next None s.tally marks r marks' text text'
+      → all_figures xs ≡ figures_of H.bodies ++ (figures none ∷ []) → Listed xs said text (record { now = r.tally; size = r.size }) marks' text'
   listed-cut {r = r} {marks'} N e =
       let D = H.sheets.stands in
       let fs = figures_of H.bodies in
       let W = N.line fs none D beyond in
       record {
-        stands = subst (λ (gs : List Figures). Standing gs r.now marks') (sym e) (N.after fs none D beyond);
+        stands = subst (λ (gs : List Figures). Standing gs r.tally marks') (sym e) (N.after fs none D beyond);
         lines = line-behind fs (figures none) H.sheets.lines W.front ∙ ap (each_sheet sheet_line 1) (sym e);
         behind = W.behind;
       }

@@ -23,7 +23,7 @@ pub struct Closing {
 }
 
 // The line of a sheet that is cut, where a length and fewer bytes came; else none.
-fn last_line(progress: Progress, marks: &mut [bool], text: &mut [u8]) -> Handed<Tally>
+fn last_line(progress: Progress, marks: &mut [u8], text: &mut [u8]) -> Handed<Tally>
     requires ready { Ready progress.tally marks.old × (may_come progress.frame ≡ true → progress.tally.place < most_sheets) }
     requires sheet_room_in_bounds { sheet_room ≤ length text.old }
     ensures ready_2 { Ready result.now marks.new × (result.size ≤ length text.new) }
@@ -31,7 +31,13 @@ fn last_line(progress: Progress, marks: &mut [bool], text: &mut [u8]) -> Handed<
 {
     let tally = progress.tally;
     match progress.frame {
-        Frame::Within { .. } => next_sheet(None, tally, marks, text),
+        Frame::Within { .. } => {
+            let step = next_sheet(None, tally, marks, text);
+            Handed {
+                now: step.tally,
+                size: step.size,
+            }
+        }
         Frame::Between | Frame::Half(_) | Frame::Full => Handed {
             now: tally,
             size: 0,
@@ -40,7 +46,7 @@ fn last_line(progress: Progress, marks: &mut [bool], text: &mut [u8]) -> Handed<
 }
 
 /// The input is over: what is still to be printed of the sheets stands in the front of the text.
-pub fn finish(progress: Progress, marks: &mut [bool], text: &mut [u8]) -> Handed<Closing>
+pub fn finish(progress: Progress, marks: &mut [u8], text: &mut [u8]) -> Handed<Closing>
     requires ready { Ready progress.tally marks.old × (may_come progress.frame ≡ true → progress.tally.place < most_sheets) }
     requires sheet_room_in_bounds { sheet_room ≤ length text.old }
     ensures closable { Closable result.now marks.new × (result.size ≤ length text.new) }
@@ -57,7 +63,7 @@ pub fn finish(progress: Progress, marks: &mut [bool], text: &mut [u8]) -> Handed
 }
 
 /// A closing part, and the one behind it.
-pub fn next_part(part: Part, tally: Tally, marks: &[bool], text: &mut [u8]) -> Handed<Closing>
+pub fn next_part(part: Part, tally: Tally, marks: &[u8], text: &mut [u8]) -> Handed<Closing>
     requires closable { Closable (closing_of tally part) marks.now }
     requires unused_room_in_bounds { unused_room ≤ length text.old }
     ensures closable_2 { Closable result.now marks.now × (result.size ≤ length text.new) }

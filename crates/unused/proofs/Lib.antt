@@ -1,6 +1,6 @@
 -- a mark behind a write: marked-same, marked_other
 pub mod Writes
--- the loop over the blocks: Filling
+-- the loop over the blocks: written, Filling
 pub mod Filling
 -- the loop over the copies: Unmarking
 pub mod Unmarking

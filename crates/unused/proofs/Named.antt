@@ -14,7 +14,7 @@ use Rattle.formats.specs.Rule11.{Ruled}
 use Rattle.formats.specs.Report.{copy_blocks, unused_blocks}
 use Rattle.formats.proofs.RuleWords.{row_at}
 use Rattle.formats.proofs.RuleRead.{row_fits}
-use Rattle.unused.specs.Marks.{Marks, marked, marked_blocks, First, Unmarked, blocks_at, Blocks}
+use Rattle.unused.specs.Marks.{marked, marked_blocks, First, Unmarked, blocks_at, Blocks}
 
 -- a test that fails from a + n on keeps what another keeps of the n numbers before
 keep-front : (f g : ℕ → Bool) (n m a : ℕ) → n ≤ m → ((v : ℕ) → a ≤ v → v < a + n → g v ≡ f v)
@@ -33,7 +33,7 @@ keep-front f g (suc n) (suc m) a l p q =
     go true e below = rw (p a (omega arith) (omega arith) ∙ e, e, keep) (ap (λ (xs : List ℕ). a ∷ xs) below)
     go false e below = rw (p a (omega arith) (omega arith) ∙ e, e, keep) below
 
-module _ (n : ℕ) (t : List ℕ) {old new : Marks} (F : First n old) (U : Unmarked (copy_blocks t) old new) where
+module _ (n : ℕ) (t : List ℕ) {old new : List ℕ} (F : First n old) (U : Unmarked (copy_blocks t) old new) where
   abbrev free : ℕ → Bool
   free v = not (member v (copy_blocks t))
 
@@ -61,12 +61,12 @@ blocks-kept h t R = record {
   inside = λ i p q. (row_fits h t R i (from-i h.copies 1 i p (omega arith))).block;
 }
 
-pub blocks-read : (t : List ℕ) {old new : Marks} {g : Heading} → g ≡ heading t → Unmarked (blocks_at t g.records g.copies) old new
+pub blocks-read : (t : List ℕ) {old new : List ℕ} {g : Heading} → g ≡ heading t → Unmarked (blocks_at t g.records g.copies) old new
     → Unmarked (copy_blocks t) old new
 blocks-read t {old} {new} q U = subst (λ (h : Heading). Unmarked (blocks_at t h.records h.copies) old new) q U
 
 -- where no block is marked, none is named
-pub names-none : {ms : Marks} → First 0 ms → marked_blocks ms ≡ []
+pub names-none : {ms : List ℕ} → First 0 ms → marked_blocks ms ≡ []
 unfolding marked_blocks keep from
 names-none {ms} F =
     keep-front (marked ms) (marked ms) 0 most_blocks 1 (omega arith) (λ v p q. refl)

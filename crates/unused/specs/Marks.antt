@@ -1,16 +1,17 @@
--- A row of marks, one for each block, and the blocks that it names.
+-- A row of marks, a byte for each block, and the blocks that it names.
 -- Rests on base Lists, formats Limits and Words.
-use Rattle.std.specs.Prelude.{◌≡◌, Bool, false, ◌&&◌, not, List, map, ℕ, ◌+◌, ◌-◌, ◌*◌, ◌≤◌, leb, length, get_or}
+use Rattle.std.specs.Prelude.{◌≡◌, Bool, ◌&&◌, not, List, map, ℕ, ◌+◌, ◌-◌, ◌*◌, ◌≤◌, leb, eqb, length, get_or}
 use Rattle.base.specs.Lists.{keep, from, member}
 use Rattle.formats.specs.Limits.{most_blocks}
 use Rattle.formats.specs.Words.{field}
 
+-- a byte for each
 abbrev pub Marks : Type 0
-Marks = List Bool
+Marks = List ℕ
 
 -- a block's mark
 unfoldable pub marked : Marks → ℕ → Bool
-marked ms v = get_or ms (v - 1) false
+marked ms v = not (eqb (get_or ms (v - 1) 0) 0)
 
 -- the marked blocks, rising
 unfoldable pub marked_blocks : Marks → List ℕ

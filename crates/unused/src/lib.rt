@@ -12,29 +12,29 @@ use headers::read_heading;
 use words::{MOST_BLOCKS, field};
 
 /// Marks the blocks 1 to n, and no other; a mark for each block that may be.
-pub fn mark_first(marks: &mut [bool], blocks: usize)
+pub fn mark_first(marks: &mut [u8], blocks: usize)
     requires { length marks.old ≡ most_blocks }
     ensures { First blocks marks.new }
 {
     for before in 0..MOST_BLOCKS {
-        marks[before] = before < blocks;
+        marks[before] = u8::from(before < blocks);
     }
 }
 
 // Takes the mark from the block of each of so many copies, whose records stand from the word `at` on.
-fn unmark_copies(sheet: &[u16], marks: &mut [bool], at: usize, copies: usize)
+fn unmark_copies(sheet: &[u16], marks: &mut [u8], at: usize, copies: usize)
     requires blocks { Blocks sheet.now at copies }
     requires marks_len { length marks.old ≡ most_blocks }
     ensures { Unmarked (blocks_at sheet.now at copies) marks.old marks.new }
 {
     for copy in 1..copies + 1 {
         let block = field(sheet, at, 3, copy, 0);
-        marks[block - 1] = false;
+        marks[block - 1] = 0;
     }
 }
 
 /// Marks the blocks 1 to n of which a bounded sheet has no copy, and no other.
-pub fn mark_unused(sheet: &[u16], blocks: usize, marks: &mut [bool])
+pub fn mark_unused(sheet: &[u16], blocks: usize, marks: &mut [u8])
     requires t_value { bounded_refusal sheet.now ≡ 0 }
     requires n_le_most_blocks { blocks ≤ most_blocks }
     requires marks_len { length marks.old ≡ most_blocks }

@@ -1,10 +1,11 @@
 -- The loop that writes the marked blocks' lines: one turn, and its end.
 -- Rests on base Lists and Search, formats Report, digits Wrote, Due and Room, unused Marks, report_lines Lines, specs Room, proofs Line.
 use mathlib.Core.Path.{◌≡◌, refl, sym, ap, ◌∙◌}
-use mathlib.Core.Bool.{Bool, true, false}
+use mathlib.Core.Bool.{Bool, true, false, not}
 use mathlib.Core.List.{List, [], ◌∷◌, ◌++◌}
 use Prim.Native.Nat.{ℕ, ◌+◌, ◌-◌, ◌≤◌, ◌<◌}
 use native.Mathlib.Omega.{arith}
+use borrow.Author.Tests.{eq-eqb, ne_eqb}
 use lib.ListN.{length, get_or}
 use Rattle.base.specs.Lists.{keep, each, from}
 use Rattle.base.proofs.Lists.{keep-e, from-e, from-length}
@@ -14,7 +15,7 @@ use Rattle.formats.specs.Report.{unused_line}
 use Rattle.digits.specs.Wrote.{Wrote}
 use Rattle.digits.proofs.Due.{Due, due-start, due-as, due-room, due-step, due-end}
 use Rattle.digits.proofs.Room.{each-room}
-use Rattle.unused.specs.Marks.{Marks, marked, marked_blocks}
+use Rattle.unused.specs.Marks.{marked, marked_blocks}
 use Rattle.report_lines.specs.Lines.{number_limit}
 use Rattle.unused_lines.specs.Room.{unused_room}
 use Rattle.unused_lines.proofs.Line.{unused-fits}
@@ -29,7 +30,7 @@ keep-most f (x ∷ xs) = go (f x) refl (keep-most f xs)
     go true e below = rw (e, keep) (omega arith)
     go false e below = rw (e, keep) (omega arith)
 
-module _ (place : ℕ) (ms : Marks) where
+module _ (place : ℕ) (ms : List ℕ) where
   -- the lines of those blocks of a list that are marked
   abbrev lines_of : List ℕ → List ℕ
   lines_of vs = each (unused_line place) (keep (marked ms) vs)
@@ -66,19 +67,22 @@ module _ (place : ℕ) (ms : Marks) where
       later = lines_of (upto (v + 1) most_blocks)
 
       -- a block that is not marked has no line
-      pub unmarked-on : get_or ms (v - 1) false ≡ false → MarkedDue old new p (v + 1)
+      pub unmarked-on : get_or ms (v - 1) 0 ≡ 0 → MarkedDue old new p (v + 1)
       unfolding marked keep
-      unmarked-on unset =
+      unmarked-on z =
+          let no : marked ms v ≡ false = ap not (eq-eqb (get_or ms (v - 1) 0) 0 z) in
           record {
             least = omega arith;
             most = omega arith;
-            due = due-as later M.due (ap lines_of (upto-more v most_blocks l) ∙ rw (unset, keep));
+            due = due-as later M.due (ap lines_of (upto-more v most_blocks l) ∙ rw (no, keep));
           }
 
-      module _ (is : get_or ms (v - 1) false ≡ true) where
+      module _ (n : get_or ms (v - 1) 0 ≡ 0 → ⊥) where
         next-due : Due old 0 all_lines new p (unused_line place v ++ later)
         unfolding marked keep each
-        next-due = due-as _ M.due (ap lines_of (upto-more v most_blocks l) ∙ rw (is, keep))
+        next-due =
+            let yes : marked ms v ≡ true = ap not (ne_eqb (get_or ms (v - 1) 0) 0 n) in
+            due-as _ M.due (ap lines_of (upto-more v most_blocks l) ∙ rw (yes, keep))
 
         pub line-room : p + length (unused_line place v) ≤ length new
         line-room = due-room (unused_line place v) later next-due

@@ -28,7 +28,7 @@ fn put_unused(text: &mut [u8], at: usize, place: usize, block: usize) -> usize
 }
 
 /// Writes the lines of a sheet's marked blocks, and answers their length.
-pub fn write_unused(text: &mut [u8], place: usize, marks: &[bool]) -> usize
+pub fn write_unused(text: &mut [u8], place: usize, marks: &[u8]) -> usize
     requires unused_room_in_bounds { unused_room ≤ length text.old }
     requires place_lt_number_limit { place < number_limit }
     requires marks_len { length marks.now ≡ most_blocks }
@@ -36,7 +36,7 @@ pub fn write_unused(text: &mut [u8], place: usize, marks: &[bool]) -> usize
 {
     let mut end = 0;
     for block in 1..MOST_BLOCKS + 1 {
-        let unused = marks[block - 1];
+        let unused = marks[block - 1] != 0;
         if unused {
             end = put_unused(text, end, place, block);
         }

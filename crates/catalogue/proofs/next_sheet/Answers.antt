@@ -1,8 +1,8 @@
 -- What is said of the sheet goes into the tally and into its part of the marks.
-use Rattle.std.proofs.Common.{◌∙◌, ◌+◌, ◌*◌, ◌≤◌, arith, rules, length}
+use Rattle.std.proofs.Common.{◌∙◌, ◌+◌, ◌*◌, ◌≤◌, ◌&&◌, Bool, ltb, ap, arith, rules, length}
 use Rattle.base.proofs.Lists.{part_length}
-use Rattle.formats.specs.Limits.{most_blocks}
-use Rattle.catalogue.proofs.Stands.{next_of}
+use Rattle.formats.specs.Limits.{most_blocks, most_sheets}
+use Rattle.catalogue.proofs.Stands.{cut-of, next_of}
 use Rattle.catalogue.proofs.next_sheet.Goals as goal
 
 pub returns : goal.returns
@@ -19,5 +19,6 @@ returns c =
         omega (arith, c.with_sheet-next.ensures.tallied.place),
       );
       next = next_of t _ c.report_item-said.result old _ _ c.with_sheet-next.ensures.tallied (omega (arith, inside))
-          (c.report_item-said.auto.marks ∙ part_length (t.place * most_blocks) most_blocks old inside) c.report_item-said.ensures.reports;
+          (c.report_item-said.auto.marks ∙ part_length (t.place * most_blocks) most_blocks old inside) c.report_item-said.ensures.reports
+          (c.may_come-more.ensures ∙ ap (λ (b : Bool). b && ltb c.with_sheet-next.result.place most_sheets) (cut-of _ c.args.bytes _ c.is_none-cut.ensures));
     }
