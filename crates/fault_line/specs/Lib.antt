@@ -1,2 +1,2 @@
--- a fault as the definitions have it, and its line: what_of, fault_of, line_text
+-- faults by their numbers, and the room of the line that tells one: what_of, fault_by, said_size
 pub mod Faults
