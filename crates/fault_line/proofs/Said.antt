@@ -1,6 +1,6 @@
 -- The line that tells a fault, part by part as it is written, and its room.
 -- Rests on base Checks, digits Spaced, Decimals and Room, text_form Reading and Said, specs Faults.
-use mathlib.Core.Path.{◌≡◌, refl, sym, ap}
+use mathlib.Core.Path.{◌≡◌, refl}
 use mathlib.Core.Bool.{Bool, true, false}
 use mathlib.Core.Logic.{◌⊎◌, inl, inr}
 use mathlib.Core.List.{List, ◌∷◌, ◌++◌}
@@ -15,7 +15,7 @@ use Rattle.digits.proofs.Decimals.{digits_7}
 use Rattle.digits.proofs.Room.{spaced-7, spaced-9}
 use Rattle.text_form.specs.Reading.{most_count}
 use Rattle.text_form.specs.Said.{line_name, column_name, colon_text, byte_name, no_digit_text, above_text}
-use Rattle.text_form.specs.Said.{many_text, nothing_text, place_text, unseen_text, other_text, what_text}
+use Rattle.text_form.specs.Said.{place_text, unseen_text, other_text, what_text}
 use Rattle.fault_line.specs.Faults.{found_limit, place_room, what_room, what_of, found_of}
 use Rattle.fault_line.specs.declared.Fault.{Fault as Kind}
 use Rattle.fault_line.specs.declared.Fault.TheVariants.{NotADigit, AboveLargest, TooManyWords, NoWord}

@@ -22,7 +22,7 @@ use Rattle.word_bytes.specs.declared.Place.{Place}
 use Rattle.word_bytes.specs.Modes.{bytes_size, mode_of}
 use Rattle.word_bytes.proofs.Modes.{same-order, pending-length}
 use Rattle.word_reading.specs.declared.Reading.{Reading}
-use Rattle.word_reading.specs.Held.{fault_in, fault_of, Holds, Able}
+use Rattle.word_reading.specs.Held.{fault_in, Holds, Able}
 
 pub holds_as : {old : List ℕ} {r q : Read} {row : List ℕ} {s : Reading} → Holds old r row s → q ≡ r → Holds old q row s
 holds_as {old} {row = row} {s} H e = subst (λ (x : Read). Holds old x row s) (sym e) H

@@ -1,5 +1,5 @@
 -- A word that was being read is written; outside a word there is nothing to write.
-use Rattle.std.proofs.Common.{refl, sym, ap, ◌∙◌}
+use Rattle.std.proofs.Common.{refl, sym, ap}
 use Rattle.base.specs.Lists.{each}
 use Rattle.digits.proofs.Due.{wrote_as, wrote_none}
 use Rattle.formats.specs.File.{bytes_of}
