@@ -1,2 +1,2 @@
--- the line that tells a fault, as it is written: printed-decimal, line-said
-pub mod Told
+-- the line that tells a fault, part by part, and its room: named-room, other-unseen, what-length
+pub mod Said

@@ -1,2 +1,2 @@
--- a fault as the definitions have it, and its line: what_of, fault_of, line_text
+-- what stood where a fault is, and the room of the line that tells it: what_of, found_of, fault_by, said_size
 pub mod Faults

@@ -1,24 +1,19 @@
 -- What is promised of a text that comes piece by piece: the bytes of a piece, and the end.
--- Rests on text_form Reading and Said, fault_line Faults, Held.
-use Rattle.std.specs.Prelude.{◌≡◌, List, [], ◌∷◌, ◌++◌, ℕ, Result, IfOk, IfErr}
-use Rattle.std.specs.Borrow.{Bor}
+-- Rests on digits Wrote, text_form Reading and Said, word_reading Held.
+use Rattle.std.specs.Prelude.{◌≡◌, List, ◌++◌, ℕ, take}
+use Rattle.digits.specs.Wrote.{Wrote}
 use Rattle.text_form.specs.Reading.{start, read_on}
 use Rattle.text_form.specs.Said.{encoded_bytes, encoded_said}
-use Rattle.fault_line.specs.Faults.{line_text}
-use Rattle.fault_line.specs.declared.TextFault.{TextFault}
-use Rattle.reading.specs.declared.Reading.{Reading}
-use Rattle.reading.specs.Held.{Holds}
+use Rattle.word_reading.specs.declared.Reading.{Reading}
+use Rattle.word_reading.specs.Held.{Holds}
+use Rattle.reading.specs.declared.Encoded.{Encoded}
 
 -- whatever was read before: these bytes too are read
-abbrev pub Feeds : List ℕ → Reading → Reading → Type 0
-Feeds text s t = (xs : List ℕ) → Holds (read_on start xs) s → Holds (read_on start (xs ++ text)) t
+abbrev pub Feeds : List ℕ → List ℕ → Reading → List ℕ → Reading → Type 0
+Feeds text row s new t = (old xs : List ℕ) → Holds old (read_on start xs) row s → Holds old (read_on start (xs ++ text)) new t
 
--- what a text comes to: its bytes, and nothing is said; or no bytes, and what is said is the line of its fault, ended by a newline (10)
-abbrev pub Comes : Result (Bor (List ℕ)) TextFault → List ℕ → Type 0
-Comes r xs =
-    IfOk r (λ bytes. (bytes.now ≡ encoded_bytes xs) × ([] ≡ encoded_said xs))
-    × IfErr r (λ fault. ([] ≡ encoded_bytes xs) × (line_text fault ++ (10 ∷ []) ≡ encoded_said xs))
-
--- whatever was read
-abbrev pub Leaves : Reading → Result (Bor (List ℕ)) TextFault → Type 0
-Leaves s r = (xs : List ℕ) → Holds (read_on start xs) s → Comes r xs
+-- whatever was read: its bytes stand in the row, and what is said of it in the row for that
+abbrev pub Leaves : List ℕ → Reading → List ℕ → List ℕ → List ℕ → Encoded → Type 0
+Leaves row s new said saying r =
+    (old xs : List ℕ) → Holds old (read_on start xs) row s
+    → (take r.size new ≡ encoded_bytes xs) × Wrote said 0 (encoded_said xs) saying r.said

@@ -1,4 +1,2 @@
--- what feeding and finishing promise: Feeds, Comes, Leaves
+-- what feeding and finishing promise: Feeds, Leaves
 pub mod Fed
--- what a reading holds: mode_of, first_fault, Holds, Able, Turns
-pub mod Held

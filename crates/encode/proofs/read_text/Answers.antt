@@ -6,12 +6,12 @@ use Rattle.encode.proofs.read_text.Goals as goal
 
 pub loop-init : goal.loop-init
 unfolding read_on
-loop-init g c = record { able = c.requires.able; read = ([], c.requires.begun, Consumes-nil _) }
+loop-init g c = record { able = c.begin-s.ensures.by_index _ c.requires; read = ([], c.begin-s.ensures.by_index_2 _, Consumes-nil _) }
 
 pub loop-preserved : goal.loop-preserved
 loop-preserved g c =
     let before = c.loop.invariant.read in
     record {
-      able = c.feed.ensures.able;
-      read = (before.0 ++ _, c.feed.ensures.feeds before.0 before.1, Consumes-trans _ _ _ _ _ before.2 c.in_ok-count.ensures.bytes.0);
+      able = c.feed-s.ensures.able;
+      read = (before.0 ++ _, c.feed-s.ensures.feeds _ before.0 before.1, Consumes-trans _ _ _ _ _ before.2 c.in_ok-n.ensures.bytes.0);
     }

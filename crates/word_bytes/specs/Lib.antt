@@ -1,0 +1,2 @@
+-- modes by their places, and the room of a text's bytes: mode_of, bytes_size
+pub mod Modes

@@ -1,0 +1,2 @@
+-- what a reading holds: fault_of, Holds, Able, Turns
+pub mod Held
