@@ -8,5 +8,5 @@ pub mod Exit
 pub mod Header
 -- the exit's place: passes_none, finds, passes, last-left
 pub mod ExitPlace
--- what a sheet that keeps rule 11 has: ruled, budget_is
+-- what a sheet that keeps rule 11 has: ruled, budget_is, header_is, number_in
 pub mod Sheet

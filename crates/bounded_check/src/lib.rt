@@ -22,7 +22,7 @@ use base::Refusal;
 use bounded_records::BoundedRecords;
 use budgets::bad_budgets;
 use entry_check::bad_entry_words;
-use headers::{Heading, budgets_part, entries_part, is_second, read_heading};
+use headers::{Heading, budgets_part, entries_part, entry, is_second, read_heading};
 use record_check::has_bad_record;
 use words::{
     LEAST_BOUNDED_EDGES, LEAST_COPIES, LEAST_WORDS, MOST_BOUNDED_EDGES, MOST_BUDGET, MOST_COPIES,
@@ -190,9 +190,9 @@ impl<'a> RuledSheet<'a> {
         ensures word { entry_word result ≡ nth (entries_in self.entry.records.words.now) number }
         ensures copy { IfSome result (λ copy. (1 ≤ copy) × (copy < word_limit)) }
     {
-        match self.entries[number - 1] {
+        match entry(self.records.words, number) {
             0 => None,
-            copy => Some(copy as usize),
+            copy => Some(copy),
         }
     }
 
