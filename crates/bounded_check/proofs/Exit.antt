@@ -9,9 +9,9 @@ use native.Mathlib.Omega.{arith}
 use native.Mathlib.Decide.{ℕ_discrete}
 use lib.Dec.{eqb, ltb}
 use lib.ListN.{length}
-use borrow.Author.Tests.{eq-eqb, ne_eqb, eqb-true, ltb-true, ltb-false}
+use borrow.Author.Tests.{eq-eqb, ne_eqb, eqb-true, ltb-true, ltb-false, not-false}
 use Rattle.base.specs.Lists.{any, from}
-use Rattle.base.proofs.Truth.{or_l, or_r, any-i}
+use Rattle.base.proofs.Truth.{not-both, or_l, or_r, any-i}
 use Rattle.base.proofs.Lists.{keep-i, keep-e, keep_one, from-i, from-e}
 use Rattle.base.proofs.Copies.{before-cases}
 use Rattle.formats.specs.BoundedSheet.{Heading, block_at, low_at, first_at, copy_at}
@@ -20,6 +20,13 @@ use Rattle.formats.proofs.RuleRead.{in_order, block-above, ordered-in, ordered-o
 use Rattle.record_check.specs.Records.{bad_records}
 use Rattle.bounded_check.specs.Behind.{bad_exits}
 use Rattle.bounded_check.proofs.Starts.{kept-order}
+
+-- a first edge that is tested
+pub is-chain : (x : ℕ) → not (eqb x 0) ≡ true → x ≡ 0 → ⊥
+is-chain x t e = not-both t (ap not (eq-eqb x 0 e))
+
+pub no-chain : (x : ℕ) → not (eqb x 0) ≡ false → x ≡ 0
+no-chain x f = eqb-true x 0 (not-false _ f)
 
 module _ (h : Heading) (s : List ℕ) (k : ℕ) (R : bad_records h s k ≡ false) where
   abbrev c : ℕ

@@ -3,13 +3,13 @@
 // Rests on words, headers, budgets, bounded_records, record_check, entry_check; the promise is an equation with formats Rule11.
 #![tactic(auto)]
 
-ghost use Rattle.std.specs.Prelude.{◌≡◌, false, ◌||◌, ◌+◌, ◌*◌, ◌≤◌, ◌<◌, length, IfOk, IfSome};
+ghost use Rattle.std.specs.Prelude.{◌≡◌, false, not, eqb, ◌||◌, ◌+◌, ◌*◌, ◌≤◌, ◌<◌, length, IfOk, IfSome};
 ghost use Rattle.base.specs.Checks.{outside};
 ghost use Rattle.base.specs.Lists.{nth};
 ghost use Rattle.base.specs.Refusals.{answer_of};
 ghost use Rattle.formats.specs.Limits.{least_words, word_limit, most_budget, least_copies, most_copies, least_bounded_edges, most_bounded_edges};
 ghost use Rattle.formats.specs.Versions.{budgets_in};
-ghost use Rattle.formats.specs.BoundedSheet.{heading_of, heading, entries_in};
+ghost use Rattle.formats.specs.BoundedSheet.{heading_of, heading, first_at, entries_in};
 ghost use Rattle.formats.specs.Rule11.{copies_of, start_count, bounded_refusal};
 ghost use Rattle.bounded_records.specs.Records.{heading_in};
 ghost use Rattle.record_check.specs.Records.{bad_records};
@@ -22,7 +22,7 @@ use base::Refusal;
 use bounded_records::BoundedRecords;
 use budgets::bad_budgets;
 use entry_check::bad_entry_words;
-use headers::{Heading, budgets_part, entries_part, is_second, read_heading};
+use headers::{Heading, budgets_part, entries_part, entry, is_second, read_heading};
 use record_check::has_bad_record;
 use words::{
     LEAST_BOUNDED_EDGES, LEAST_COPIES, LEAST_WORDS, MOST_BOUNDED_EDGES, MOST_BUDGET, MOST_COPIES,
@@ -92,6 +92,14 @@ fn count_starts(records: BoundedRecords<'_>) -> usize
     records.copies
 }
 
+/// A copy has a chain.
+fn has_chain(records: BoundedRecords<'_>, copy: usize) -> bool
+    requires { (1 ≤ copy) × (copy ≤ records.copies) }
+    ensures { result ≡ not (eqb (first_at (heading_in records.entry) records.entry.words.now copy) 0) }
+{
+    records.first_edge(copy) != 0
+}
+
 /// The exit is not the only copy of block 2, or has a low or a chain. In copies in order it stands behind the start copies, and no copy of its
 /// block behind it.
 fn bad_exits(records: BoundedRecords<'_>, starts: usize) -> bool
@@ -109,7 +117,7 @@ fn bad_exits(records: BoundedRecords<'_>, starts: usize) -> bool
     if records.low(exit) != 0 {
         return true;
     }
-    if records.first_edge(exit) != 0 {
+    if has_chain(records, exit) {
         return true;
     }
     if exit == records.copies {
@@ -190,9 +198,9 @@ impl<'a> RuledSheet<'a> {
         ensures word { entry_word result ≡ nth (entries_in self.entry.records.words.now) number }
         ensures copy { IfSome result (λ copy. (1 ≤ copy) × (copy < word_limit)) }
     {
-        match self.entries[number - 1] {
+        match entry(self.records.words, number) {
             0 => None,
-            copy => Some(copy as usize),
+            copy => Some(copy),
         }
     }
 

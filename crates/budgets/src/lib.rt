@@ -1,4 +1,4 @@
-// Conditions 4 and 41, on the budgets that both kinds of sheet name in their header. Below the public calls.
+// Conditions 4 and 41, on the budgets that both kinds of sheet name in their header, and 43, on a graph sheet's. Below the public calls.
 // Rests on words, headers; the promises are equations with formats Versions and GraphSheet.
 #![tactic(auto)]
 
@@ -8,11 +8,11 @@ ghost use Rattle.std.specs.List.Sorted.{IsStrictlyIncreasing};
 ghost use Rattle.base.specs.Checks.{refused};
 ghost use Rattle.base.specs.Refusals.{answer_of};
 ghost use Rattle.formats.specs.Limits.{least_words, most_budget};
-ghost use Rattle.formats.specs.Versions.{budgets_at, budget_count, budgets_in, bad_budgets};
+ghost use Rattle.formats.specs.Versions.{budgets_at, budget_count, budgets_in, bad_budgets, bad_handler};
 ghost use Rattle.formats.specs.GraphSheet.{budget_order};
 
 use base::Refusal;
-use headers::budgets_part;
+use headers::{budget, budgets_part};
 use words::{LEAST_BUDGETS, MOST_BUDGET, MOST_BUDGETS, is_outside};
 
 // THE BUDGETS as a row of their own
@@ -43,6 +43,15 @@ pub fn bad_budgets(words: &[u16]) -> bool
         return true;
     }
     !is_rising(budgets)
+}
+
+/// Condition 43: a handler's cost above the smallest budget, which is the first.
+pub fn bad_handler(words: &[u16], handler: u16) -> bool
+    requires { (least_words ≤ length words.now) × (budgets_at words.now + budget_count words.now ≤ length words.now) × (1 ≤ budget_count words.now) }
+    ensures { result ≡ bad_handler handler words.now }
+{
+    let smallest = budget(words, 1);
+    smallest < handler as usize
 }
 
 /// The budgets, a part of the sheet: 1 to 4 that rise, none above 500. Else 4, then 41.

@@ -10,14 +10,23 @@ mod layout;
 
 pub use layout::Layout;
 
+/// Whether the cell at a place is set.
+#[tactic(auto, unfolding(base::specs::Cells::is_set))]
+pub fn is_set_at(area: &[u8], place: usize) -> bool
+    requires { HasCell area.now place }
+    ensures { result ≡ is_set area.now place }
+{
+    area[place] != 0
+}
+
 /// Whether the area stands for a block's cost.
-#[tactic(auto, unfolding(calls::specs::Area::stands, base::specs::Cells::is_set))]
+#[tactic(auto, unfolding(calls::specs::Area::stands))]
 pub fn is_set(area: &[u8], layout: Layout, block: usize, cost: usize) -> bool
     requires inside { (1 ≤ block) × (block ≤ layout.blocks) × (cost ≤ layout.budget) }
     requires has_cell { HasCell area.now (cell_of layout.budget block cost) }
     ensures { result ≡ stands layout.budget area.now block cost }
 {
-    area[layout.cell(block, cost)] != 0
+    is_set_at(area, layout.cell(block, cost))
 }
 
 /// Sets a block's cost.

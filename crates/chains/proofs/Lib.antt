@@ -8,5 +8,7 @@ pub mod Following
 pub mod Looking
 -- the targets of a chain copied, edge by edge: Copying
 pub mod Copying
+-- one chain counted, edge by edge: Passed; Given, by the targets that it gives
+pub mod Counting
 -- what a chain has left: rest_end, rest_more; rest_few, rest_counted
 pub mod Rest

@@ -1,6 +1,6 @@
 // A public call on a graph sheet: its conditions 1 to 8 in order, with 41 behind 4; and with the handler's cost, which brings 43 behind 41. A
 // sheet that passes them is a view that carries it, so that nothing behind asks for it again.
-// Rests on words, chains, graph_records, form_check, edge_check; the promises are equations with formats GraphSheet.
+// Rests on words, chains, budgets, graph_records, form_check, edge_check; the promises are equations with formats GraphSheet.
 #![tactic(auto)]
 
 ghost use Rattle.std.specs.Prelude.{◌≡◌, ◌≤◌, length, IfOk};
@@ -14,6 +14,7 @@ ghost use Rattle.graph_records.specs.Records.{header_in};
 ghost use Rattle.graph_check.specs.Headers.{edge_stage, IsSound};
 
 use base::Refusal;
+use budgets::bad_handler;
 use chains::Chain;
 use edge_check::{has_bad_chain, has_bad_target};
 use form_check::FormedSheet;
@@ -89,7 +90,7 @@ impl<'a> SoundSheet<'a> {
         ensures words { IfOk result (λ sheet. sheet.records.words.now ≡ words.now) }
     {
         let formed = FormedSheet::read(words)?;
-        if formed.budgets[0] < handler {
+        if bad_handler(words, handler) {
             return Err(Refusal::DearHandler);
         }
         if has_bad_cost(formed.records) {

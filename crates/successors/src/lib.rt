@@ -1,5 +1,5 @@
 // A public call on a graph sheet: a block's number of successors.
-// Rests on words, graph_check; the promise is an equation with formats GraphSheet.
+// Rests on words, chains, graph_check; the promise is an equation with formats GraphSheet.
 #![tactic(auto)]
 
 ghost use Rattle.std.specs.Prelude.{◌≡◌, ◌≤◌, length};
@@ -10,6 +10,7 @@ ghost use Rattle.graph_records.specs.Records.{header_in};
 ghost use Rattle.successors.specs.Counted.{counted_of};
 
 use base::Refusal;
+use chains::count_targets;
 use graph_check::{SoundSheet, check_graph};
 use words::is_outside;
 
@@ -18,7 +19,7 @@ fn successor_count(sheet: SoundSheet<'_>, block: usize) -> usize
     requires { (1 ≤ block) × (block ≤ sheet.records.blocks) }
     ensures { (result ≡ length (successors (header_in sheet.entry.records) sheet.entry.records.words.now block)) × (result ≤ most_edges) }
 {
-    sheet.successors(block).count()
+    count_targets(sheet.successors(block))
 }
 
 /// The number of successors of a block; the sheet's own refusals, then 33 for a block outside 1 to N.
