@@ -33,3 +33,7 @@ sheet_text ws = lines_text (layout ws) ws
 unfoldable pub total : List ℕ → ℕ
 total [] = 0
 total (k ∷ ks) = k + total ks
+
+-- a word takes at most five digits and what parts it from the next
+abbrev pub sheet_room : List ℕ → ℕ
+sheet_room ws = 6 * length ws

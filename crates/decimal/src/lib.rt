@@ -1,136 +1,99 @@
-//! A row of words as lines of decimal words: a sheet's header and each of its records in a line, any other row a word a line.
+//! A row of words written as lines of decimal words: a sheet's header and each of its records in a line, any other row a word a line.
+//! Rests on words, headers, digits; the promises say the whole row, by digits Wrote and specs Writing.
 #![tactic(auto)]
 
-ghost use Rattle.std.specs.Prelude.{◌≡◌, map, Some, ◌+◌, ◌*◌, ◌≤◌, length, replicate};
+ghost use Rattle.std.specs.Prelude.{◌≡◌, map, ◌+◌, ◌*◌, ◌≤◌, length, replicate};
 ghost use Rattle.formats.specs.Listing.{decimal, line};
-ghost use Rattle.decimal.specs.Writing.{records, lines_text, sheet_text, total};
+ghost use Rattle.digits.specs.Wrote.{Wrote};
+ghost use Rattle.decimal.specs.Writing.{records, lines_text, sheet_text, total, sheet_room};
 
+use digits::{NEWLINE, put_byte, put_decimal, put_numbers};
 use headers::{read_header, read_heading};
-use printed::{Spaced, write_decimal};
-use std::fmt;
-use words::LEAST_WORDS;
+use words::{LEAST_WORDS, word_at};
 
-/// Words in a line.
-#[derive(Clone, Copy, Debug)]
-struct Line<'a>(&'a [u16]);
+/// Writes words in a line.
+fn put_line(words: &[u16], text: &mut [u8], at: usize) -> usize
+    requires in_bounds { 1 ≤ length words.now }
+    requires words_in_bounds { at + length (line (map decimal words.now)) ≤ length text.old }
+    ensures { Wrote text.old at (line (map decimal words.now)) text.new result }
+{
+    let behind_first = put_decimal(text, at, word_at(words, 0));
+    let behind_others = put_numbers(&words[1..], text, behind_first);
+    put_byte(text, behind_others, NEWLINE)
+}
 
-impl fmt::Display for Line<'_> {
-    ghost output = { λ words. Some (line (map decimal words.0.now)) };
-
-    #[tactic(auto, using(crate::proofs::Parts::line_none, crate::proofs::Parts::line_is))]
-    fn fmt<W: fmt::Write>(&self, f: &mut fmt::Formatter<W>) -> fmt::Result {
-        match self.0 {
-            [first, rest @ ..] => {
-                write_decimal(f, *first)?;
-                let rest = Spaced(rest);
-                writeln!(f, "{rest}")
-            }
-            [] => writeln!(f),
-        }
+/// Writes so many lines of so many words each.
+fn put_lines(words: &[u16], count: usize, width: usize, text: &mut [u8], at: usize) -> usize
+    requires le_width { 1 ≤ width }
+    requires width_in_bounds { total (replicate count width) ≤ length words.now }
+    requires words_in_bounds { at + length (lines_text (replicate count width) words.now) ≤ length text.old }
+    ensures { Wrote text.old at (lines_text (replicate count width) words.now) text.new result }
+{
+    let mut place = at;
+    let mut first = 0;
+    let mut left = count;
+    while 0 < left {
+        place = put_line(&words[first..first + width], text, place);
+        first += width;
+        left -= 1;
     }
+    place
 }
 
-/// So many lines of so many words each.
-#[derive(Clone, Copy, Debug)]
-struct Lines<'a> {
-    words: &'a [u16],
-    count: usize,
-    width: usize,
-    ghost inside: { total (replicate count width) ≤ length words.now },
-}
-
-impl fmt::Display for Lines<'_> {
-    ghost output = { λ lines. Some (lines_text (replicate lines.count lines.width) lines.words.now) };
-
-    fn fmt<W: fmt::Write>(&self, f: &mut fmt::Formatter<W>) -> fmt::Result {
-        let mut rest = self.words;
-        for _line in 0..self.count {
-            let (words, behind) = rest.split_at(self.width);
-            let line = Line(words);
-            write!(f, "{line}")?;
-            rest = behind;
-        }
-        Ok(())
-    }
-}
-
-/// A sheet's words: its header, so many records of a width, and from the word `edges_at` on edge records of two words.
-#[derive(Clone, Copy, Debug)]
-struct Records<'a> {
-    words: &'a [u16],
+/// Writes a sheet's words: its header, so many records of a width, and from the word `edges_at` on edge records of two words.
+fn put_records(
+    words: &[u16],
     header: usize,
     count: usize,
     width: usize,
     edges_at: usize,
     edges: usize,
-    ghost place: { edges_at ≡ header + total (replicate count width) },
-    ghost inside: { edges_at + 2 * edges ≤ length words.now },
+    text: &mut [u8],
+) -> usize
+    requires le_header { (1 ≤ header) × (1 ≤ width) }
+    requires edges_at_value { (edges_at ≡ header + total (replicate count width)) × (edges_at + 2 * edges ≤ length words.now) }
+    requires words_in_bounds { length (lines_text (records header count width edges) words.now) ≤ length text.old }
+    ensures { Wrote text.old 0 (lines_text (records header count width edges) words.now) text.new result }
+{
+    let behind_header = put_line(&words[..header], text, 0);
+    let behind_records = put_lines(&words[header..], count, width, text, behind_header);
+    put_lines(&words[edges_at..], edges, 2, text, behind_records)
 }
 
-impl fmt::Display for Records<'_> {
-    ghost output = { λ sheet. Some (lines_text (records sheet.header sheet.count sheet.width sheet.edges) sheet.words.now) };
-
-    fn fmt<W: fmt::Write>(&self, f: &mut fmt::Formatter<W>) -> fmt::Result {
-        let words = self.words;
-        let header = Line(&words[..self.header]);
-        let records = Lines {
-            words: &words[self.header..],
-            count: self.count,
-            width: self.width,
-        };
-        let edges = Lines {
-            words: &words[self.edges_at..],
-            count: self.edges,
-            width: 2,
-        };
-        write!(f, "{header}{records}{edges}")
+/// Writes a row of words as lines of decimal words, by its length a graph sheet, a bounded sheet, or neither; answers the length of the text.
+pub fn decode(words: &[u16], text: &mut [u8]) -> usize
+    requires { sheet_room words.now ≤ length text.old }
+    ensures { Wrote text.old 0 (sheet_text words.now) text.new result × (result ≤ length text.new) }
+{
+    let size = words.len();
+    if size < LEAST_WORDS {
+        return put_lines(words, size, 1, text, 0);
     }
-}
-
-/// A row of words, in lines by its length: a graph sheet, a bounded sheet, or neither.
-#[derive(Clone, Copy, Debug)]
-pub struct SheetText<'a>(pub &'a [u16]);
-
-impl fmt::Display for SheetText<'_> {
-    ghost output = { λ sheet. Some (sheet_text sheet.0.now) };
-
-    fn fmt<W: fmt::Write>(&self, f: &mut fmt::Formatter<W>) -> fmt::Result {
-        let words = self.0;
-        let size = words.len();
-        let column = Lines {
+    let graph = read_header(words);
+    let blocks_end = graph.records + 2 * graph.blocks;
+    if size == blocks_end + 2 * graph.edges {
+        return put_records(
             words,
-            count: size,
-            width: 1,
-        };
-        if size < LEAST_WORDS {
-            return write!(f, "{column}");
-        }
-        let graph = read_header(words);
-        let edges_at = graph.records + 2 * graph.blocks;
-        if size == edges_at + 2 * graph.edges {
-            let sheet = Records {
-                words,
-                header: graph.records,
-                count: graph.blocks,
-                width: 2,
-                edges_at,
-                edges: graph.edges,
-            };
-            return write!(f, "{sheet}");
-        }
-        let bounded = read_heading(words);
-        let edges_at = bounded.records + 3 * bounded.copies;
-        if size == edges_at + 2 * bounded.edges {
-            let sheet = Records {
-                words,
-                header: bounded.records,
-                count: bounded.copies,
-                width: 3,
-                edges_at,
-                edges: bounded.edges,
-            };
-            return write!(f, "{sheet}");
-        }
-        write!(f, "{column}")
+            graph.records,
+            graph.blocks,
+            2,
+            blocks_end,
+            graph.edges,
+            text,
+        );
     }
+    let bounded = read_heading(words);
+    let copies_end = bounded.records + 3 * bounded.copies;
+    if size == copies_end + 2 * bounded.edges {
+        return put_records(
+            words,
+            bounded.records,
+            bounded.copies,
+            3,
+            copies_end,
+            bounded.edges,
+            text,
+        );
+    }
+    put_lines(words, size, 1, text, 0)
 }

@@ -1,2 +1,4 @@
--- the line that tells a fault, part by part, and its room: named-room, other-unseen, what-length
+-- what a fault's number stands for: what-other, what-large, what-many, what-nothing
+pub mod Faults
+-- the line that tells a fault, part by part, and its room: named-room, other-below, text-large, what-length
 pub mod Said

@@ -1,9 +1,7 @@
--- What stood where a fault is, and the room of the line that tells it.
+-- A fault by its numbers, and the room of the line that tells it.
 -- Rests on text_form Reading.
-use Rattle.std.specs.Prelude.{ℕ, ◌+◌}
+use Rattle.std.specs.Prelude.{true, false, ℕ, ◌+◌, eqb}
 use Rattle.text_form.specs.Reading.{What, other, large, many, nothing, Fault}
-use Rattle.fault_line.specs.declared.Fault.{Fault as Kind}
-use Rattle.fault_line.specs.declared.Fault.TheVariants.{NotADigit, AboveLargest, TooManyWords, NoWord}
 
 -- no number that a fault tells has more than seven digits
 abbrev pub found_limit : ℕ
@@ -19,20 +17,14 @@ what_room = 27
 abbrev pub said_size : ℕ
 said_size = place_room + what_room + 1
 
--- what stood where a fault is
-abbrev pub what_of : Kind → What
-what_of (NotADigit b) = other b
-what_of (AboveLargest n) = large n
-what_of TooManyWords = many
-what_of NoWord = nothing
-
--- the number that it tells
-abbrev pub found_of : Kind → ℕ
-found_of (NotADigit b) = b
-found_of (AboveLargest n) = n
-found_of TooManyWords = 0
-found_of NoWord = 0
+-- what stood where a fault is, by its number and what was found there
+unfoldable pub what_of : ℕ → ℕ → What
+what_of k x =
+    elim (eqb k 1) [
+      | true ↦ other x
+      | false ↦ elim (eqb k 2) [ true ↦ large x | false ↦ elim (eqb k 3) [ true ↦ many | false ↦ nothing ] ]
+    ]
 
 -- the fault at this line and column
-abbrev pub fault_by : ℕ → ℕ → Kind → Fault
-fault_by l c k = record { line = l; column = c; what = what_of k }
+abbrev pub fault_by : ℕ → ℕ → ℕ → ℕ → Fault
+fault_by l c k x = record { line = l; column = c; what = what_of k x }

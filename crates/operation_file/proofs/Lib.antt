@@ -2,5 +2,3 @@
 pub mod Files
 -- every row comes out as it says: pinned
 pub mod Rows
--- the bytes of some words, word by word: bytes_none, bytes_more
-pub mod Bytes

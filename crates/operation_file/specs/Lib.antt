@@ -4,5 +4,3 @@ pub mod Longer
 pub mod Program
 -- rows that pin it
 pub mod Refusals
--- the bytes of what is converted: converted_text
-pub mod Texts

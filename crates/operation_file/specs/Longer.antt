@@ -15,3 +15,7 @@ longer_file = 2 * longer_operations
 -- the most words of a graph sheet that is accepted: four, the most budgets, and the records
 abbrev pub most_graph : ℕ
 most_graph = 4 + most_budgets + 2 * most_blocks + 2 * most_edges
+
+-- in bytes
+abbrev pub graph_file : ℕ
+graph_file = 2 * most_graph

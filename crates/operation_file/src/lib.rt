@@ -1,23 +1,20 @@
-//! The graph sheet of an operation sheet's file: its bytes are `converted` of the whole file (proofs Files); below the program, which reads and
-//! writes.
+//! The graph sheet of an operation sheet's file, on slices: below the program, which reads the file and writes the bytes.
+//! Rests on file_words, convert_operations, file_bytes, text; the bytes are specs Program `converted` of the whole file (proofs Files).
 #![tactic(auto)]
 
-ghost use Rattle.std.specs.Prelude.{◌≡◌, List, ℕ, ◌≤◌, length, OnOk};
-ghost use Rattle.std.specs.Io.KnownBytes.{Appends};
-ghost use Rattle.formats.specs.File.{word_bytes, bytes_of};
+ghost use Rattle.std.specs.Prelude.{◌≡◌, List, ℕ, ◌≤◌, length};
+ghost use Rattle.digits.specs.Wrote.{Wrote};
 ghost use Rattle.kept.specs.Held.{Held, held_as};
-ghost use Rattle.operation_file.specs.Longer.{longer_operations, longer_file, most_graph};
-ghost use Rattle.operation_file.specs.Program.{sheet_converted, converted};
-ghost use Rattle.operation_file.specs.Texts.{converted_text};
+ghost use Rattle.operation_file.specs.Longer.{longer_file, graph_file};
+ghost use Rattle.operation_file.specs.Program.{sheet_converted, converted_from, converted};
 
 use base::Refusal;
 use convert_operations::convert_operations;
+use file_bytes::put_words;
 use file_words::{LONGER_SHEET, words_of};
 use headers::read_header;
 use kept::Kept;
-use std::io;
-use std::io::Write;
-use text::RefusalLine;
+use text::write_refusal;
 use words::{MOST_BLOCKS, MOST_BUDGETS, MOST_EDGES};
 
 /// One word more than the longest operation sheet that 3 lets pass has: a longer file is answered by as many of its words.
@@ -29,67 +26,45 @@ pub const LONGER_FILE: usize = 2 * LONGER_OPERATIONS;
 /// The most words of a graph sheet that is accepted.
 pub const MOST_GRAPH: usize = 4 + MOST_BUDGETS + 2 * MOST_BLOCKS + 2 * MOST_EDGES;
 
-/// Writes a word, the lower byte first.
-fn write_word<W: Write>(word: u16, writer: &mut W) -> io::Result<()>
-    ensures { OnOk result (Appends (W.contents writer.old) (W.contents writer.new) (word_bytes word)) }
-{
-    writer.write_all(&word.to_le_bytes())
-}
+/// The same in bytes.
+pub const GRAPH_FILE: usize = 2 * MOST_GRAPH;
 
-/// Writes the words of a row.
-fn write_words<W: Write>(words: &[u16], writer: &mut W) -> io::Result<()>
-    ensures { OnOk result (Appends (W.contents writer.old) (W.contents writer.new) (bytes_of words.now)) }
+/// Writes the bytes of the graph sheet that an operation sheet says, or its refusal; answers how many.
+fn write_converted(words: &[u16], out: &mut [u8]) -> usize
+    requires { graph_file ≤ length out.old }
+    ensures { Wrote out.old 0 (sheet_converted words.now) out.new result × (result ≤ length out.new) }
 {
-    for word in words {
-        write_word(*word, writer)?;
-    }
-    Ok(())
-}
-
-/// Writes the bytes of a graph sheet, or the line of a refusal.
-pub fn write_converted<W: Write>(
-    converted: Result<&[u16], Refusal>,
-    writer: &mut W,
-) -> io::Result<()>
-    ensures { OnOk result (Appends (W.contents writer.old) (W.contents writer.new) (converted_text converted.entry)) }
-{
-    match converted {
-        Ok(words) => write_words(words, writer),
-        Err(refusal) => {
-            let line = RefusalLine {
-                number: refusal.number(),
-            };
-            write!(writer, "{line}")
+    let mut graph = [0u16; MOST_GRAPH];
+    match convert_operations(words, &mut graph) {
+        Ok(()) => {
+            let header = read_header(words);
+            let size = header.records + 2 * header.blocks + 2 * header.edges;
+            put_words(&graph[..size], out, 0)
         }
+        Err(refusal) => write_refusal(refusal.number(), out),
     }
 }
 
-/// The graph sheet that an operation sheet says, at the front of a row.
-fn convert_words<'a>(words: &[u16], graph: &'a mut [u16]) -> Result<&'a [u16], Refusal>
-    requires { most_graph ≤ length graph.old }
-    ensures { converted_text result ≡ sheet_converted words.now }
+/// The same of a file, from its first bytes and whether it has an odd number of them.
+fn convert_file(bytes: &[u8], odd: bool, out: &mut [u8]) -> usize
+    requires bytes_len_bound { length bytes.now ≤ longer_file }
+    requires graph_file_in_bounds { graph_file ≤ length out.old }
+    ensures { Wrote out.old 0 (converted_from bytes.now odd) out.new result × (result ≤ length out.new) }
 {
-    convert_operations(words, graph)?;
-    let header = read_header(words);
-    let size = header.records + 2 * header.blocks + 2 * header.edges;
-    Ok(&graph[..size])
+    if odd {
+        return write_refusal(Refusal::TooShort.number(), out);
+    }
+    let mut words = [0u16; LONGER_OPERATIONS];
+    let count = words_of(bytes, &mut words);
+    write_converted(&words[..count], out)
 }
 
-/// The same of an input, of which a row has the first bytes; its words are put to the front of another row.
-pub fn convert_kept<'a>(
-    kept: Kept,
-    row: &[u8],
-    words: &mut [u16],
-    graph: &'a mut [u16],
-) -> Result<&'a [u16], Refusal>
+/// The same of an input, of which a row has the first bytes.
+pub fn convert_kept(kept: Kept, row: &[u8], out: &mut [u8]) -> usize
     requires row_len { (length row.now ≡ longer_file) × (kept.count ≤ length row.now) }
-    requires words_room { longer_operations ≤ length words.old }
-    requires graph_room { most_graph ≤ length graph.old }
-    ensures { (xs : List ℕ) → Held xs row.now (held_as kept) → converted_text result ≡ converted xs }
+    requires graph_file_in_bounds { graph_file ≤ length out.old }
+    ensures upper_bound { result ≤ length out.new }
+    ensures by_index { (xs : List ℕ) → Held xs row.now (held_as kept) → Wrote out.old 0 (converted xs) out.new result }
 {
-    if kept.odd {
-        return Err(Refusal::TooShort);
-    }
-    let count = words_of(&row[..kept.count], words);
-    convert_words(&words[..count], graph)
+    convert_file(&row[..kept.count], kept.odd, out)
 }

@@ -10,18 +10,18 @@ ghost use Rattle.word_reading.specs.Held.{Holds, Able, Turns};
 ghost use Rattle.reading.specs.Fed.{Feeds, Leaves};
 
 use byte_reading::take_byte;
-use fault_line::{Fault, say};
-use word_bytes::{Place, flush};
+use fault_line::{NOTHING, say};
+use word_bytes::{BETWEEN, flush};
 use word_reading::{Reading, fault_at};
 
-/// What a text came to: how many bytes its words take, and how many tell its fault; one of the two is 0.
-#[derive(Clone, Copy, Debug, PartialEq, Eq)]
+// What a text came to: how many bytes its words take, and how many tell its fault; one of the two is 0.
+#[derive(Drop)]
 pub struct Encoded {
     pub size: usize,
     pub said: usize,
 }
 
-/// Nothing has been read.
+// Nothing has been read.
 pub fn begin() -> Reading
     ensures by_index { (row : List ℕ) → length row ≡ bytes_size → Able result row }
     ensures by_index_2 { (row : List ℕ) → Holds row start row result }
@@ -30,20 +30,23 @@ pub fn begin() -> Reading
         size: 0,
         line: 1,
         column: 1,
-        place: Place::Between,
-        fault: None,
+        mode: BETWEEN,
+        fault: 0,
+        found: 0,
     }
 }
 
-/// Reads the next bytes of the text, however many, and writes the words that they end.
+// Reads the next bytes of the text, however many, and writes the words that they end.
 pub fn feed(s: Reading, text: &[u8], out: &mut [u8]) -> Reading
     requires { Able s out.old }
     ensures able { Able result out.new }
     ensures feeds { Feeds text.now out.old s out.new result }
 {
     let mut t = s;
-    for &byte in text {
-        t = take_byte(out, t, byte);
+    let mut i = 0;
+    while i < text.len() {
+        t = take_byte(out, t, text[i]);
+        i += 1;
     }
     t
 }
@@ -54,26 +57,25 @@ fn end_text(out: &mut [u8], s: Reading) -> Reading
     ensures able { Able result out.new }
     ensures turns { Turns ended out.old s out.new result }
 {
-    match s.fault {
-        Some(_) => s,
-        None => {
-            let size = flush(out, s.size, s.place);
-            let t = Reading {
-                size,
-                line: s.line,
-                column: s.column,
-                place: Place::Between,
-                fault: s.fault,
-            };
-            if size == 0 {
-                return fault_at(t, Fault::NoWord);
-            }
-            t
-        }
+    if s.fault != 0 {
+        return s;
     }
+    let size = flush(out, s.size, s.mode);
+    let t = Reading {
+        size: size,
+        line: s.line,
+        column: s.column,
+        mode: BETWEEN,
+        fault: s.fault,
+        found: s.found,
+    };
+    if size == 0 {
+        return fault_at(t, NOTHING, 0);
+    }
+    t
 }
 
-/// The text is over: leaves the bytes of its words, or the line that tells its fault.
+// The text is over: leaves the bytes of its words, or the line that tells its fault.
 pub fn finish(s: Reading, out: &mut [u8], said: &mut [u8]) -> Encoded
     requires able { Able s out.old }
     requires said_len { length said.old ≡ said_size }
@@ -81,14 +83,12 @@ pub fn finish(s: Reading, out: &mut [u8], said: &mut [u8]) -> Encoded
     ensures leaves { Leaves out.old s out.new said.old said.new result }
 {
     let t = end_text(out, s);
-    match t.fault {
-        Some(fault) => {
-            let n = say(t.line, t.column, fault, said);
-            Encoded { size: 0, said: n }
-        }
-        None => Encoded {
-            size: t.size,
-            said: 0,
-        },
+    if t.fault != 0 {
+        let n = say(t.line, t.column, t.fault, t.found, said);
+        return Encoded { size: 0, said: n };
+    }
+    Encoded {
+        size: t.size,
+        said: 0,
     }
 }

@@ -8,9 +8,12 @@ use Rattle.decimal.specs.Writing.{sheet_text}
 abbrev pub most_shown : ℕ
 most_shown = 65535
 
--- the bytes of one word more
+-- the bytes of one word more, and the most text
 abbrev pub shown_file : ℕ
 shown_file = 2 * (most_shown + 1)
+
+abbrev pub shown_room : ℕ
+shown_room = 6 * most_shown
 
 unfoldable pub shown : List ℕ → List ℕ
 shown bs =

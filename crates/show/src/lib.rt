@@ -1,17 +1,19 @@
-//! A file as decimal words, or its refusal: its text is `shown` of the whole file; below the decode program, which reads and writes.
+//! A file as decimal words, or its refusal: below the decode program, which reads the file and writes the text.
+//! Rests on kept, file_words, decimal and text; the text is `shown` of the whole file.
 #![tactic(auto)]
 
-ghost use Rattle.std.specs.Prelude.{◌≡◌, List, ℕ, ◌≤◌, length, Some};
+ghost use Rattle.std.specs.Prelude.{◌≡◌, List, ℕ, ◌≤◌, ◌<◌, length};
+ghost use Rattle.formats.specs.File.{words_of};
+ghost use Rattle.digits.specs.Wrote.{Wrote};
+ghost use Rattle.decimal.specs.Writing.{sheet_text};
 ghost use Rattle.kept.specs.Held.{Held, held_as};
-ghost use Rattle.show.specs.Shown.{most_shown, shown_file, shown};
-ghost use Rattle.show.specs.Texts.{shown_text};
+ghost use Rattle.show.specs.Shown.{shown_file, shown_room, shown};
 
 use base::Refusal;
-use decimal::SheetText;
+use decimal::decode;
 use file_words::words_of;
 use kept::Kept;
-use std::fmt;
-use text::RefusalLine;
+use text::write_refusal;
 
 /// The most words of a file that is shown.
 pub const MOST_WORDS: usize = 65535;
@@ -19,41 +21,32 @@ pub const MOST_WORDS: usize = 65535;
 /// The bytes of one word more: as much of a file as is kept.
 pub const SHOWN_FILE: usize = 2 * (MOST_WORDS + 1);
 
-/// What is shown of a file: the line of a refusal, or the file's words.
-#[derive(Clone, Copy, Debug)]
-pub enum FileText<'a> {
-    Refused(Refusal),
-    Words(SheetText<'a>),
+/// The room of what is shown: a word takes at most five digits and what parts it from the next.
+pub const SHOWN_TEXT: usize = 6 * MOST_WORDS;
+
+/// The words of some bytes.
+fn show_words(bytes: &[u8], text: &mut [u8]) -> usize
+    requires bytes_len_bound { length bytes.now < shown_file }
+    requires shown_room_in_bounds { shown_room ≤ length text.old }
+    ensures { Wrote text.old 0 (sheet_text (words_of bytes.now)) text.new result × (result ≤ length text.new) }
+{
+    let mut words = [0u16; MOST_WORDS];
+    let count = words_of(bytes, &mut words);
+    decode(&words[..count], text)
 }
 
-impl fmt::Display for FileText<'_> {
-    ghost output = { λ shown. Some (shown_text shown) };
-
-    fn fmt<W: fmt::Write>(&self, f: &mut fmt::Formatter<W>) -> fmt::Result {
-        match self {
-            FileText::Refused(refusal) => {
-                let line = RefusalLine {
-                    number: refusal.number(),
-                };
-                write!(f, "{line}")
-            }
-            FileText::Words(sheet) => write!(f, "{sheet}"),
-        }
-    }
-}
-
-/// What is shown of an input, of which a row has the first bytes; its words are put to the front of another row.
-pub fn show_kept<'a>(kept: Kept, row: &[u8], words: &'a mut [u16]) -> FileText<'a>
+/// What is shown of an input, of which a row has the first bytes; answers the length of the text.
+pub fn show_kept(kept: Kept, row: &[u8], text: &mut [u8]) -> usize
     requires row_len { (length row.now ≡ shown_file) × (kept.count ≤ length row.now) }
-    requires room { most_shown ≤ length words.old }
-    ensures { (xs : List ℕ) → Held xs row.now (held_as kept) → shown_text result ≡ shown xs }
+    requires shown_room_in_bounds { shown_room ≤ length text.old }
+    ensures upper_bound { result ≤ length text.new }
+    ensures by_index { (xs : List ℕ) → Held xs row.now (held_as kept) → Wrote text.old 0 (shown xs) text.new result }
 {
     if kept.odd {
-        return FileText::Refused(Refusal::TooShort);
+        return write_refusal(Refusal::TooShort.number(), text);
     }
     if row.len() <= kept.count {
-        return FileText::Refused(Refusal::WrongLength);
+        return write_refusal(Refusal::WrongLength.number(), text);
     }
-    let count = words_of(&row[..kept.count], words);
-    FileText::Words(SheetText(&words[..count]))
+    show_words(&row[..kept.count], text)
 }

@@ -1,90 +1,69 @@
-//! What the programs print of a sheet: the listing of a bounded sheet, or the line of a refusal.
+//! What the programs write of a sheet into a lent row of bytes: the listing of a bounded sheet, or the line of a refusal.
+//! Rests on headers, digits, heading_line and copy_line; the promises say the whole row, by digits Wrote and formats Listing.
 #![tactic(auto)]
 
-ghost use Rattle.std.specs.Prelude.{◌≡◌, Some};
+ghost use Rattle.std.specs.Prelude.{◌≡◌, ◌+◌, ◌≤◌, length};
 ghost use Rattle.formats.specs.Rule11.{bounded_refusal};
 ghost use Rattle.formats.specs.Listing.{listing_of, refusal_of};
+ghost use Rattle.digits.specs.Wrote.{Wrote};
 ghost use Rattle.copy_line.specs.Line.{Readable};
-ghost use Rattle.text.specs.Texts.{copy_lines};
+ghost use Rattle.text.specs.Texts.{listing_room, refusal_room, copy_lines};
 
-use copy_line::CopyLine;
-use headers::{Heading, budgets_part, read_heading};
-use heading_line::HeadingLine;
-use std::fmt;
+use copy_line::write_copy;
+use digits::{NEWLINE, put_byte, put_named};
+use headers::{budgets_part, read_heading};
+use heading_line::write_heading;
+use words::{MOST_BOUNDED_EDGES, MOST_BUDGETS, MOST_COPIES};
 
-/// The lines of all copies of a sheet.
-#[derive(Clone, Copy)]
-struct CopyLines<'a> {
-    words: &'a [u16],
-    heading: Heading,
-    ghost readable: { Readable words.now heading.records heading.copies heading.edges },
-}
+/// The room that the text of any bounded sheet, and of any refusal, takes.
+pub const TEXT_SIZE: usize = 30 + 4 * MOST_BUDGETS + 13 * MOST_COPIES + 5 * MOST_BOUNDED_EDGES;
 
-impl fmt::Display for CopyLines<'_> {
-    ghost output = { λ lines. Some (copy_lines lines.words.now lines.heading.records lines.heading.copies lines.heading.edges) };
+/// The room of a refusal alone.
+pub const REFUSAL_SIZE: usize = 14;
 
-    #[tactic(auto, using(crate::proofs::Lines::no_line))]
-    fn fmt<W: fmt::Write>(&self, f: &mut fmt::Formatter<W>) -> fmt::Result {
-        let words = self.words;
-        let Heading {
-            copies,
-            edges,
-            records,
-            ..
-        } = self.heading;
-        for copy in 1..copies + 1 {
-            let line = CopyLine::read(words, records, copies, edges, copy);
-            write!(f, "{line}")?;
-        }
-        Ok(())
+/// Writes the lines of all copies.
+fn write_copies(
+    words: &[u16],
+    text: &mut [u8],
+    at: usize,
+    start: usize,
+    copies: usize,
+    edges: usize,
+) -> usize
+    requires readable { Readable words.now start copies edges }
+    requires edges_in_bounds { at + length (copy_lines words.now start copies edges) ≤ length text.old }
+    ensures { Wrote text.old at (copy_lines words.now start copies edges) text.new result }
+{
+    let mut place = at;
+    for copy in 1..copies + 1 {
+        place = write_copy(words, text, place, start, copies, edges, copy);
     }
+    place
 }
 
-/// The listing of a bounded sheet that keeps rule 11.
-#[derive(Clone, Copy)]
-pub struct Listing<'a> {
-    sheet: &'a [u16],
-    ghost ruled: { bounded_refusal sheet.now ≡ 0 },
+/// Writes the listing of a bounded sheet, and answers its length.
+pub fn write_listing(sheet: &[u16], text: &mut [u8]) -> usize
+    requires sheet_value { bounded_refusal sheet.now ≡ 0 }
+    requires listing_room_in_bounds { listing_room ≤ length text.old }
+    ensures { Wrote text.old 0 (listing_of sheet.now) text.new result × (result ≤ length text.new) }
+{
+    let heading = read_heading(sheet);
+    let end = write_heading(text, heading.copies, heading.edges, budgets_part(sheet));
+    write_copies(
+        sheet,
+        text,
+        end,
+        heading.records,
+        heading.copies,
+        heading.edges,
+    )
 }
 
-impl<'a> Listing<'a> {
-    /// That of a bounded sheet.
-    pub fn of(sheet: &'a [u16]) -> Listing<'a>
-        requires { bounded_refusal sheet.now ≡ 0 }
-        ensures { result.sheet.now ≡ sheet.now }
-    {
-        Listing { sheet }
-    }
-}
-
-impl fmt::Display for Listing<'_> {
-    ghost output = { λ listing. Some (listing_of listing.sheet.now) };
-
-    fn fmt<W: fmt::Write>(&self, f: &mut fmt::Formatter<W>) -> fmt::Result {
-        let words = self.sheet;
-        let heading = read_heading(words);
-        let line = HeadingLine {
-            copies: heading.copies,
-            edges: heading.edges,
-            budgets: budgets_part(words),
-        };
-        let lines = CopyLines { words, heading };
-        write!(f, "{line}{lines}")
-    }
-}
-
-/// The line of a refusal, by its number.
-#[derive(Clone, Copy, Debug, PartialEq, Eq)]
-pub struct RefusalLine {
-    pub number: u16,
-}
-
-impl fmt::Display for RefusalLine {
-    ghost output = { λ line. Some (refusal_of line.number) };
-
-    #[tactic(auto, using(crate::proofs::Lines::refusal_line))]
-    fn fmt<W: fmt::Write>(&self, f: &mut fmt::Formatter<W>) -> fmt::Result {
-        let number = self.number;
-        writeln!(f, "refused {number}")
-    }
+/// Writes the line of a refusal by its number, and answers its length.
+pub fn write_refusal(number: u16, text: &mut [u8]) -> usize
+    requires { refusal_room ≤ length text.old }
+    ensures { Wrote text.old 0 (refusal_of number) text.new result × (result ≤ length text.new) }
+{
+    let end = put_named(text, 0, b"refused", number as usize);
+    put_byte(text, end, NEWLINE)
 }

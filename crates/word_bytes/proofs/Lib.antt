@@ -1,2 +1,2 @@
--- modes by their places, and what is written in each: apart, comment-no, pending-length, full-outside, begin-room
+-- modes by their numbers, and what is written in each: mode-within, pending-bytes, value_none, comment-no, full-outside
 pub mod Modes

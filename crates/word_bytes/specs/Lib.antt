@@ -1,2 +1,2 @@
--- modes by their places, and the room of a text's bytes: mode_of, bytes_size
+-- modes by their numbers, and the room of a text's bytes: mode_of, bytes_size
 pub mod Modes

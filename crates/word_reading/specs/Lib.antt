@@ -1,2 +1,2 @@
--- what a reading holds: fault_of, Holds, Able, Turns
+-- what the numbers of a reading hold: fault_of, Holds, Able, Turns
 pub mod Held

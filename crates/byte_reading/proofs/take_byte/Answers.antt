@@ -4,10 +4,10 @@ use Rattle.text_form.proofs.Cases.{with_none, with-fault}
 use Rattle.word_reading.proofs.Turns.{holds_as, held_none, held-fault}
 use Rattle.byte_reading.proofs.take_byte.Goals as goal
 
-pub returns-in-None : goal.returns-in-None
+pub returns-then-s-eq0 : goal.returns-then-s-eq0
 unfolding step
-returns-in-None c = record { able = c.text_byte.ensures.able; turns = λ old r H. holds_as (c.text_byte.ensures.turns old r H) (with_none r (text_byte r c.args.byte) (held_none H c.in-None.is)) }
+returns-then-s-eq0 c = record { able = c.text_byte.ensures.able; turns = λ old r H. holds_as (c.text_byte.ensures.turns old r H) (with_none r (text_byte r c.args.b) (held_none H c.if-s-eq0.true)) }
 
-pub returns-in-Some : goal.returns-in-Some
+pub returns : goal.returns
 unfolding step
-returns-in-Some c = record { able = c.requires; turns = λ old r H. holds_as H (with-fault r (text_byte r c.args.byte) (held-fault H _ c.in-Some.is)) }
+returns c = record { able = c.requires; turns = λ old r H. holds_as H (with-fault r (text_byte r c.args.b) (held-fault H c.if-s-eq0.false)) }

@@ -14,7 +14,7 @@ put_byte-requires c =
       c.say_place-p.auto.said,
       c.say_what-q.ensures.is-end,
       c.say_what-q.auto.said,
-      what-length c.args.fault c.requires.2,
+      what-length c.args.fault c.args.found c.requires.2,
     )
 
 pub returns : goal.returns
@@ -28,7 +28,7 @@ returns c = (
     c.say_place-p.auto.said,
     c.say_what-q.ensures.is-end,
     c.say_what-q.auto.said,
-    what-length c.args.fault c.requires.2,
+    what-length c.args.fault c.args.found c.requires.2,
     c.put_byte.ensures.is-end,
     c.put_byte.auto.text,
   ),

@@ -1,7 +1,10 @@
 -- The first bytes of an input and its parity give the listing of the whole; each is below 256, as the slice has it.
-use Rattle.std.proofs.Common.{arith, ◌∙◌}
+use Rattle.std.proofs.Common.{arith}
+use Rattle.digits.proofs.Due.{wrote_as}
 use Rattle.list.proofs.Files.{listed_kept}
 use Rattle.list.proofs.list_kept.Goals as goal
 
 pub returns : goal.returns
-returns c = λ xs H. c.list_file.ensures ∙ listed_kept H c.requires.row_len.0 (λ i. omega (arith, c.type_inv.row i))
+returns c =
+    let e = c.list_file.ensures in
+    record { upper_bound = e.1; by_index = λ xs H. wrote_as e.0 (listed_kept H c.requires.row_len.0 (λ i. omega (arith, c.type_inv.row i))) }

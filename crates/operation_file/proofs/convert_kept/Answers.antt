@@ -1,17 +1,10 @@
--- An odd file is refused with 1, of any other the words are converted; its first bytes, each below 256, give what the whole gives.
-use Rattle.std.proofs.Common.{ap, ◌∙◌, arith}
-use Rattle.file_words.proofs.Filled.{words-first}
-use Rattle.operation_file.specs.Program.{sheet_converted}
-use Rattle.operation_file.proofs.Files.{odd-converted, even-converted, converted-kept}
+-- The first bytes of an input and its parity give the output of the whole; each is below 256, as the slice has it.
+use Rattle.std.proofs.Common.{arith}
+use Rattle.digits.proofs.Due.{wrote_as}
+use Rattle.operation_file.proofs.Files.{converted-kept}
 use Rattle.operation_file.proofs.convert_kept.Goals as goal
 
-pub returns-then-kept : goal.returns-then-kept
-returns-then-kept c = λ xs H.
-    odd-converted _ c.if-kept.true ∙ converted-kept H c.requires.row_len.0 (λ i. omega (arith, c.type_inv.row i))
-
 pub returns : goal.returns
-returns c = λ xs H.
-    c.convert_words.ensures
-    ∙ ap sheet_converted (words-first _ _ _ _ c.words_of-count.ensures.words_after c.words_of-count.ensures.value)
-    ∙ even-converted _ c.if-kept.false
-    ∙ converted-kept H c.requires.row_len.0 (λ i. omega (arith, c.type_inv.row i))
+returns c =
+    let e = c.convert_file.ensures in
+    record { upper_bound = e.1; by_index = λ xs H. wrote_as e.0 (converted-kept H c.requires.row_len.0 (λ i. omega (arith, c.type_inv.row i))) }

@@ -1,15 +1,15 @@
--- One byte more.
+-- The bytes are read one by one; the measure is the bytes left.
 use Rattle.std.proofs.Common.{◌∙◌, arith}
 use Rattle.reading.proofs.Texts.{feeds-next, feeds-all}
 use Rattle.reading.proofs.feed.Goals as goal
 
-pub loop-byte-preserved : goal.loop-byte-preserved
-loop-byte-preserved c =
-    record {
-      len = c.take_byte-t.auto.out ∙ c.loop-byte.invariant.len;
-      able = c.take_byte-t.ensures.able;
-      feeds = feeds-next c.args.text.now c.loop-byte.byte-index c.loop-byte-test.true c.loop-byte.invariant.feeds c.take_byte-t.ensures.turns;
-    }
+pub loop-i-preserved : goal.loop-i-preserved
+loop-i-preserved c = (
+  omega (arith, c.loop-i-test.true),
+  c.take_byte-t.auto.out ∙ c.loop-i.invariant.1,
+  c.take_byte-t.ensures.able,
+  feeds-next c.args.text.now c.loop-i.i c.loop-i-test.true c.loop-i.invariant.3 c.take_byte-t.ensures.turns,
+)
 
-pub returns-clause-feeds : goal.returns-clause-feeds
-returns-clause-feeds c = feeds-all c.args.text.now c.loop-byte.byte-index (omega (arith, c.loop-byte-test.false)) c.loop-byte.invariant.feeds
+pub returns : goal.returns
+returns c = record { able = c.loop-i.invariant.2; feeds = feeds-all c.args.text.now c.loop-i.i c.loop-i-test.false c.loop-i.invariant.3 }

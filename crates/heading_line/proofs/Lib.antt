@@ -1,0 +1,2 @@
+-- the heading's length: heading-length
+pub mod Heading

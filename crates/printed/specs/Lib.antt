@@ -1,2 +1,0 @@
--- a number behind a space, and so the words of a row: spaced, spaced_words
-pub mod Spaced
