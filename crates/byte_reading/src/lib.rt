@@ -54,7 +54,7 @@ fn text_byte(out: &mut [u8], s: Reading, b: u8) -> Reading
     line_byte(out, s, b)
 }
 
-// A byte of a text, unless there is a fault.
+/// A byte of a text, unless there is a fault.
 pub fn take_byte(out: &mut [u8], s: Reading, b: u8) -> Reading
     requires { Able s out.old }
     ensures able { Able result out.new }

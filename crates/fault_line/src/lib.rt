@@ -10,10 +10,10 @@ ghost use Rattle.fault_line.specs.Faults.{found_limit, place_room, what_room, sa
 
 use digits::{NEWLINE, put_byte, put_bytes, put_decimal, put_named};
 
-// The room that the line takes.
+/// The room that the line takes.
 pub const SAID_SIZE: usize = 62;
 
-// The faults: 0 is none.
+/// The faults: 0 is none.
 pub const OTHER: usize = 1;
 
 pub const LARGE: usize = 2;
@@ -83,7 +83,7 @@ fn say_what(fault: usize, found: usize, said: &mut [u8], at: usize) -> usize
     put_bytes(said, at, b"no word")
 }
 
-// Writes the line that tells a fault.
+/// Writes the line that tells a fault.
 pub fn say(line: usize, column: usize, fault: usize, found: usize, said: &mut [u8]) -> usize
     requires { (line ≤ most_count) × (column ≤ most_count) × (found < found_limit) × (length said.old ≡ said_size) }
     ensures { Wrote said.old 0 (said_text (fault_by line column fault found)) said.new result × (result ≤ length said.new) }

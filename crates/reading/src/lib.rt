@@ -14,14 +14,14 @@ use fault_line::{NOTHING, say};
 use word_bytes::{BETWEEN, flush};
 use word_reading::{Reading, fault_at};
 
-// What a text came to: how many bytes its words take, and how many tell its fault; one of the two is 0.
-#[derive(Drop)]
+/// What a text came to: how many bytes its words take, and how many tell its fault; one of the two is 0.
+#[derive(Clone, Copy, Debug, PartialEq, Eq)]
 pub struct Encoded {
     pub size: usize,
     pub said: usize,
 }
 
-// Nothing has been read.
+/// Nothing has been read.
 pub fn begin() -> Reading
     ensures by_index { (row : List ℕ) → length row ≡ bytes_size → Able result row }
     ensures by_index_2 { (row : List ℕ) → Holds row start row result }
@@ -36,7 +36,7 @@ pub fn begin() -> Reading
     }
 }
 
-// Reads the next bytes of the text, however many, and writes the words that they end.
+/// Reads the next bytes of the text, however many, and writes the words that they end.
 pub fn feed(s: Reading, text: &[u8], out: &mut [u8]) -> Reading
     requires { Able s out.old }
     ensures able { Able result out.new }
@@ -75,7 +75,7 @@ fn end_text(out: &mut [u8], s: Reading) -> Reading
     t
 }
 
-// The text is over: leaves the bytes of its words, or the line that tells its fault.
+/// The text is over: leaves the bytes of its words, or the line that tells its fault.
 pub fn finish(s: Reading, out: &mut [u8], said: &mut [u8]) -> Encoded
     requires able { Able s out.old }
     requires said_len { length said.old ≡ said_size }

@@ -14,9 +14,9 @@ const DIGIT_ZERO: u8 = 48;
 
 const DIGIT_NINE: u8 = 57;
 
-// How far a text has been read: the bytes written, the line and the column of the byte that comes next, the mode, the first fault and what was
-// found there. After a fault the line and the column are the fault's.
-#[derive(Clone, Copy)]
+/// How far a text has been read: the bytes written, the line and the column of the byte that comes next, the mode, the first fault and what was
+/// found there. After a fault the line and the column are the fault's.
+#[derive(Clone, Copy, Debug, PartialEq, Eq)]
 pub struct Reading {
     pub size: usize,
     pub line: usize,
@@ -26,7 +26,7 @@ pub struct Reading {
     pub found: usize,
 }
 
-// A fault at this line and column.
+/// A fault at this line and column.
 pub fn fault_at(s: Reading, fault: usize, found: usize) -> Reading
     ensures { result ≡ record { size = s.size; line = s.line; column = s.column; mode = s.mode; fault = fault; found = found } }
 {
@@ -40,7 +40,7 @@ pub fn fault_at(s: Reading, fault: usize, found: usize) -> Reading
     }
 }
 
-// One byte on, in this mode, with so many bytes written.
+/// One byte on, in this mode, with so many bytes written.
 pub fn onward(s: Reading, size: usize, mode: usize) -> Reading
     ensures { result ≡ record { size = size; line = s.line; column = next s.column; mode = mode; fault = s.fault; found = s.found } }
 {
@@ -61,7 +61,7 @@ fn wide(b: u8) -> usize
     b as usize
 }
 
-// A byte of a word.
+/// A byte of a word.
 pub fn word_byte(s: Reading, b: u8) -> Reading
     requires { s.fault ≡ 0 }
     ensures by_index { (row : List ℕ) → Able s row → Able result row }
