@@ -67,6 +67,7 @@ pub rows-serve : (x y z k : ℕ) {w : List ℕ} {h : ℕ} → Serves x y z k w h
     × (cell_count (task w h).blocks (task w h).largest ≤ length (replicate {A = ℕ} k 0)))
     × Clear (replicate k 0))
 rows-serve x y z k {w} {h} S =
-    let few : cell_count (task w h).blocks (task w h).largest ≤ length (replicate {A = ℕ} k 0) = omega (arith, S.table, length-replicate {A = ℕ} k 0) in
-    (zero-rows (header w).blocks (header w).edges (task w h).largest x y z (omega arith) (omega arith) (omega arith) S.row S.nexts S.has,
-    ((few, few), zeros-clear k))
+    let few : cell_count (task w h).blocks (task w h).largest ≤ length (replicate {A = ℕ} k 0) = omega (arith, S.table, length-replicate {A = ℕ} k 0) in (
+      zero-rows (header w).blocks (header w).edges (task w h).largest x y z (omega arith) (omega arith) (omega arith) S.row S.nexts S.has,
+      ((few, few), zeros-clear k),
+    )
