@@ -10,7 +10,7 @@ use build::build;
 use lent::{
     bounded_move_in_place, guarded_move_in_place, start_bounded_in_place, start_guarded_in_place,
 };
-use reader::edge_part;
+use reader::edge_words;
 use std::io;
 use walk::{End, Walk};
 
@@ -387,11 +387,11 @@ impl<'a> Machines<'a> {
 
 /// The targets of a copy, from its edge words.
 fn print_targets(rt: &impl Print, sheet: &[u16], copy: u16) -> io::Result<()> {
+    let mut answer = 0u16;
+    let words = edge_words(sheet, copy, &mut answer);
     print!(rt; "targets")?;
-    if let Ok(words) = edge_part(sheet, copy) {
-        for target in words.iter().step_by(2) {
-            print!(rt; " {}", *target)?;
-        }
+    for target in words.iter().step_by(2) {
+        print!(rt; " {}", *target)?;
     }
     println!(rt)
 }
