@@ -1,4 +1,4 @@
-// The line that tells a fault of a text: its line, its column and what stood there.
+// The line that tells a fault of a text: its line, its column and what stood there; and the fault as a value that is printed so.
 // Rests on digits and text_form.
 #![tactic(auto)]
 
@@ -8,7 +8,10 @@ ghost use Rattle.text_form.specs.Reading.{most_count};
 ghost use Rattle.text_form.specs.Said.{place_text, unseen_text, other_text, what_text, said_text};
 ghost use Rattle.fault_line.specs.Faults.{found_limit, place_room, what_room, said_size, what_of, fault_by};
 
+mod kinds;
+
 use digits::{NEWLINE, put_byte, put_bytes, put_decimal, put_named};
+pub use kinds::{Fault, TextFault};
 
 /// The room that the line takes.
 pub const SAID_SIZE: usize = 62;

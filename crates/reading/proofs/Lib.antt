@@ -2,3 +2,9 @@
 pub mod Texts
 -- every way of cutting a text into pieces: pieces-read
 pub mod Pieces
+-- a byte that a fault tells is a byte: told-in, told-out, read-told
+pub mod Told
+-- a reading that keeps its bytes: feeds-own, told-bytes, told-line
+pub mod Own
+-- the same for it, every way of cutting a text: pieces-read
+pub mod KeptPieces

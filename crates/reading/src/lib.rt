@@ -9,10 +9,13 @@ ghost use Rattle.word_bytes.specs.Modes.{bytes_size};
 ghost use Rattle.word_reading.specs.Held.{Holds, Able, Turns};
 ghost use Rattle.reading.specs.Fed.{Feeds, Leaves};
 
+mod keeping;
+
 use byte_reading::take_byte;
 use fault_line::{NOTHING, say};
+pub use keeping::Reading;
 use word_bytes::{BETWEEN, flush};
-use word_reading::{Reading, fault_at};
+use word_reading::{Reading as Progress, fault_at};
 
 /// What a text came to: how many bytes its words take, and how many tell its fault; one of the two is 0.
 #[derive(Clone, Copy, Debug, PartialEq, Eq)]
@@ -22,11 +25,11 @@ pub struct Encoded {
 }
 
 /// Nothing has been read.
-pub fn begin() -> Reading
+pub fn begin() -> Progress
     ensures by_index { (row : List ℕ) → length row ≡ bytes_size → Able result row }
     ensures by_index_2 { (row : List ℕ) → Holds row start row result }
 {
-    Reading {
+    Progress {
         size: 0,
         line: 1,
         column: 1,
@@ -37,7 +40,7 @@ pub fn begin() -> Reading
 }
 
 /// Reads the next bytes of the text, however many, and writes the words that they end.
-pub fn feed(s: Reading, text: &[u8], out: &mut [u8]) -> Reading
+pub fn feed(s: Progress, text: &[u8], out: &mut [u8]) -> Progress
     requires { Able s out.old }
     ensures able { Able result out.new }
     ensures feeds { Feeds text.now out.old s out.new result }
@@ -52,7 +55,7 @@ pub fn feed(s: Reading, text: &[u8], out: &mut [u8]) -> Reading
 }
 
 // The text is over: the last word is done, and a text without any is a fault.
-fn end_text(out: &mut [u8], s: Reading) -> Reading
+fn end_text(out: &mut [u8], s: Progress) -> Progress
     requires { Able s out.old }
     ensures able { Able result out.new }
     ensures turns { Turns ended out.old s out.new result }
@@ -61,7 +64,7 @@ fn end_text(out: &mut [u8], s: Reading) -> Reading
         return s;
     }
     let size = flush(out, s.size, s.mode);
-    let t = Reading {
+    let t = Progress {
         size: size,
         line: s.line,
         column: s.column,
@@ -76,7 +79,7 @@ fn end_text(out: &mut [u8], s: Reading) -> Reading
 }
 
 /// The text is over: leaves the bytes of its words, or the line that tells its fault.
-pub fn finish(s: Reading, out: &mut [u8], said: &mut [u8]) -> Encoded
+pub fn finish(s: Progress, out: &mut [u8], said: &mut [u8]) -> Encoded
     requires able { Able s out.old }
     requires said_len { length said.old ≡ said_size }
     ensures size_in_bounds { (result.size ≤ length out.new) × (result.said ≤ length said.new) }
