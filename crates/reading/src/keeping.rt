@@ -46,10 +46,8 @@ fn begun(row: [u8; BYTES_SIZE]) -> Reading
     ensures able { Able result }
     ensures held { Holds start result }
 {
-    Reading {
-        row,
-        progress: begin(),
-    }
+    let progress = begin();
+    Reading { row, progress }
 }
 
 impl Reading {

@@ -7,8 +7,8 @@ use Rattle.reading.proofs.keeping.begun.Goals as goal
 pub returns : goal.returns
 unfolding start
 returns c =
-    let K = c.begin.ensures.by_index_2 c.args.row in
+    let K = c.begin-progress.ensures.by_index_2 c.args.row in
     record {
-      able = c.begin.ensures.by_index _ c.requires;
-      held = record { is-read = K; is-byte = told-out c.begin.result (subst Told (sym K.is-fault) tt) };
+      able = c.begin-progress.ensures.by_index _ c.requires;
+      held = record { is-read = K; is-byte = told-out c.begin-progress.result (subst Told (sym K.is-fault) tt) };
     }
