@@ -23,7 +23,7 @@ pub struct Reading {
     progress: Progress,
 }
 
-// What stood where a fault is, by its number and what was found there.
+// What stood where a fault is, by its number and what was found there: of a byte that is no digit its value, which is below 256 then.
 fn fault_by(fault: usize, found: usize) -> Fault
     requires { found < found_limit }
     ensures { (fault ≡ 1 → found < 256) → what_of result ≡ what_by fault found }
