@@ -1,7 +1,8 @@
 -- What a reading that keeps its bytes holds, of its row as it stands; the end of a text.
--- Rests on digits Wrote, text_form Reading, Said, Cases and Encoded, word_reading Held and Turns, specs Fed, Held and Comes, Told.
+-- Rests on digits Wrote, text_form Reading, Said, Cases and Encoded, fault_line Faults, Kinds and Told, word_reading Held and Turns, specs Fed and
+-- Comes, Told.
 use mathlib.Core.Path.{◌≡◌, refl, sym, ap, subst, ◌∙◌}
-use mathlib.Core.List.{List, [], ◌∷◌, ◌++◌, append_assoc}
+use mathlib.Core.List.{List, [], ◌∷◌, ◌++◌}
 use mathlib.Core.Option.{Option, some, none}
 use Prim.Native.Nat.{ℕ, ◌<◌}
 use native.Mathlib.Omega.{arith}
@@ -9,7 +10,7 @@ use native.Mathlib.Decide.{dec_lt}
 use lib.ListN.{length, get_or}
 use Rattle.digits.specs.Wrote.{Wrote}
 use Rattle.text_form.specs.Reading.{What, nothing, Fault, Read, start, flush, worded, ended, read_on, read_words}
-use Rattle.text_form.specs.Said.{place_text, what_text, said_text, encoded_bytes, encoded_said}
+use Rattle.text_form.specs.Said.{said_text, encoded_bytes, encoded_said}
 use Rattle.text_form.proofs.Cases.{with_none, with-fault, worded-nothing, worded-words}
 use Rattle.text_form.proofs.Encoded.{read-append, encoded-quiet, encoded-nothing, encoded-told}
 use Rattle.fault_line.specs.Faults.{what_of as what_by}
@@ -17,14 +18,15 @@ use Rattle.word_reading.specs.declared.Reading.{Reading as Numbers}
 use Rattle.word_reading.specs.Held.{fault_at, Holds as Holding}
 use Rattle.word_reading.proofs.Turns.{held_none, held-fault}
 use Rattle.reading.specs.Fed.{Feeds as Feeding}
-use Rattle.fault_line.specs.Kinds.{what_of, line_text}
+use Rattle.fault_line.specs.Kinds.{what_of, fault_of, line_text}
 use Rattle.fault_line.specs.declared.kinds.TextFault.{TextFault}
+use Rattle.fault_line.proofs.Told.{line-said}
 use Rattle.reading.specs.declared.keeping.Reading.{Reading}
 use Rattle.reading.specs.Comes.{Feeds}
 use Rattle.reading.proofs.Told.{Told, told-in, told-out, read-told}
 
 -- what was written from the beginning on does not depend on the row before
-pub rebase : {old row : List ℕ} {r : Read} {s : Numbers} → Holding old r row s → Holding row r row s
+rebase : {old row : List ℕ} {r : Read} {s : Numbers} → Holding old r row s → Holding row r row s
 rebase H =
     record {
       wrote = record { front = H.wrote.front; is-end = H.wrote.is-end; behind = refl };
@@ -53,9 +55,16 @@ quiet {xs = xs} W z = go xs (omega (arith, W.is-end, z))
     go [] e = refl
     go (y ∷ ys) e = absurd (omega (arith, e))
 
+-- a fault by names is that of the numbers, where its line, its column and its kind are theirs
+by-parts : (t : TextFault) (s : Numbers) → t.line ≡ s.line → t.column ≡ s.column → what_of t.fault ≡ what_by s.fault s.found → fault_of t ≡ fault_at s
+by-parts t s p q e =
+    ap (λ (l : ℕ). record { line = l; column = t.column; what = what_of t.fault }) p
+    ∙ ap (λ (c : ℕ). record { line = s.line; column = c; what = what_of t.fault }) q
+    ∙ ap (λ (w : What). record { line = s.line; column = s.column; what = w }) e
+
 module _ (xs : List ℕ) {row : List ℕ} {s : Numbers} (H : Holding row (read_on start xs) row s) where
   -- where something is said, the fault is that of the numbers, and without any it is that there is no word
-  pub told-fault : {old new : List ℕ} {n : ℕ} → Wrote old 0 (encoded_said xs) new n → (n ≡ 0 → ⊥) → (read_words xs).fault ≡ some (fault_at s)
+  told-fault : {old new : List ℕ} {n : ℕ} → Wrote old 0 (encoded_said xs) new n → (n ≡ 0 → ⊥) → (read_words xs).fault ≡ some (fault_at s)
   unfolding read_words ended flush what_by
   told-fault {n = n} W said = go (dec_lt 0 s.fault)
     where
@@ -88,10 +97,4 @@ module _ (xs : List ℕ) {row : List ℕ} {s : Numbers} (H : Holding row (read_o
 
     pub told-line : (t : TextFault) → t.line ≡ s.line → t.column ≡ s.column → what_of t.fault ≡ what_by s.fault s.found
         → line_text t ++ (10 ∷ []) ≡ encoded_said xs
-    unfolding said_text
-    told-line t p q e =
-        append_assoc (place_text t.line t.column) (what_text (what_of t.fault)) (10 ∷ [])
-        ∙ ap (λ (l : ℕ). place_text l t.column ++ (what_text (what_of t.fault) ++ (10 ∷ []))) p
-        ∙ ap (λ (c : ℕ). place_text s.line c ++ (what_text (what_of t.fault) ++ (10 ∷ []))) q
-        ∙ ap (λ (w : What). place_text s.line s.column ++ (what_text w ++ (10 ∷ []))) e
-        ∙ encoded-told xs (told-fault W said)
+    told-line t p q e = line-said t ∙ ap said_text (by-parts t s p q e) ∙ encoded-told xs (told-fault W said)

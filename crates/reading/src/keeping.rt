@@ -68,7 +68,7 @@ impl Reading {
         self.progress = feed(self.progress, text, &mut self.row);
     }
 
-    /// The text is over: the bytes of its words, or its first fault.
+    /// The text is over: the bytes of its words, or its first fault. Nothing is promised of the reading behind that.
     pub fn finish(&mut self) -> Result<&[u8], TextFault>
         requires { Able self.old }
         ensures { Leaves self.old result }

@@ -1,4 +1,5 @@
-// Decimal words in a text, read into a sheet's bytes however the text comes in pieces; a fault is told by line, column and what stood there.
+// Decimal words in a text, read into a sheet's bytes however the text comes in pieces; a fault is told by line, column and what stood there. In lent
+// rows, and by a `Reading` that keeps its own.
 // Rests on fault_line, word_bytes, word_reading and byte_reading; for every way of cutting a text it is the same (proofs Pieces `pieces-read`).
 #![tactic(auto)]
 
